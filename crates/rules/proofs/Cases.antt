@@ -1,0 +1,112 @@
+-- The quarry cases hold: `starred-hold` over the table that document 01 marks, `unstarred-hold` over the others.
+-- Each row is computed with `fast-steps`; then the tables are carried to `steps`, the same function. Assumes nothing.
+use mathlib.Core.Path.{_≡_, refl, subst}
+use mathlib.Core.Bool.{Bool, true, false}
+use mathlib.Core.List.{List, [], _∷_}
+use Prim.Native.Nat.{ℕ}
+use lib.ListN.{replicate}
+use Rattle.rules.specs.Lists.{all}
+use Rattle.rules.specs.Table.{table-stands}
+use Rattle.rules.specs.Steps.{steps}
+use Rattle.rules.specs.Commands.{name-allowed}
+use Rattle.rules.specs.Quarry.{quarry-setting, longer-length, longer-table}
+use Rattle.rules.specs.Cases.{Row, holds, starred, unstarred, case-1, case-2, case-3, case-4, case-5, case-6, case-7, case-7-full, case-8, case-8-inside, case-9, case-10}
+use Rattle.rules.specs.declared.Step.{Step}
+use Rattle.rules.proofs.Opened.{rules}
+use Rattle.rules.proofs.Programming.{fast-steps, fast-is-steps}
+
+-- ---- the rows, one computation each
+
+case-1-computed : holds fast-steps case-1 ≡ true
+unfolding rules case-1
+case-1-computed = refl
+
+case-2-computed : holds fast-steps case-2 ≡ true
+unfolding rules case-2
+case-2-computed = refl
+
+case-3-computed : holds fast-steps case-3 ≡ true
+unfolding rules case-3
+case-3-computed = refl
+
+case-4-computed : holds fast-steps case-4 ≡ true
+unfolding rules case-4
+case-4-computed = refl
+
+case-5-computed : holds fast-steps case-5 ≡ true
+unfolding rules case-5
+case-5-computed = refl
+
+case-6-computed : holds fast-steps case-6 ≡ true
+unfolding rules case-6
+case-6-computed = refl
+
+case-7-computed : holds fast-steps case-7 ≡ true
+unfolding rules case-7
+case-7-computed = refl
+
+case-7-full-computed : holds fast-steps case-7-full ≡ true
+unfolding rules case-7-full
+case-7-full-computed = refl
+
+case-9-computed : holds fast-steps case-9 ≡ true
+unfolding rules case-9
+case-9-computed = refl
+
+case-8-computed : holds fast-steps case-8 ≡ true
+unfolding rules case-8
+case-8-computed = refl
+
+case-8-inside-computed : holds fast-steps case-8-inside ≡ true
+unfolding rules case-8-inside
+case-8-inside-computed = refl
+
+case-10-computed : holds fast-steps case-10 ≡ true
+unfolding rules case-10
+case-10-computed = refl
+
+-- ---- the tables
+
+starred-computed : all (holds fast-steps) starred ≡ true
+unfolding all starred
+starred-computed =
+    rw (
+      case-1-computed,
+      case-2-computed,
+      case-3-computed,
+      case-4-computed,
+      case-5-computed,
+      case-6-computed,
+      case-7-computed,
+      case-7-full-computed,
+      case-9-computed,
+    )
+
+unstarred-computed : all (holds fast-steps) unstarred ≡ true
+unfolding all unstarred
+unstarred-computed =
+    rw (case-8-computed, case-8-inside-computed, case-10-computed)
+
+-- a table that holds with the one evaluator holds with the other; nothing is computed here
+by-steps : (rs : List Row) → all (holds fast-steps) rs ≡ true → all (holds steps) rs ≡ true
+by-steps rs = subst (λ (f : ℕ → List Step → List ℕ → List ℕ). all (holds f) rs ≡ true) fast-is-steps
+
+-- document 01's starred cases
+pub starred-hold : all (holds steps) starred ≡ true
+starred-hold = by-steps starred starred-computed
+
+-- cases 8 and, in part, 10, which document 01 leaves to a program
+pub unstarred-hold : all (holds steps) unstarred ≡ true
+unstarred-hold = by-steps unstarred unstarred-computed
+
+-- 10: "In a longer image 127 entries stand, 128 do not."
+pub case-10-entries :
+    (table-stands quarry-setting longer-length (longer-table 127) ≡ true)
+    × (table-stands quarry-setting longer-length (longer-table 128) ≡ false)
+unfolding rules
+case-10-entries = (refl, refl)
+
+-- 10: "Names of 15 bytes accepted, of 16 refused 9."
+pub case-10-names : (name-allowed (replicate 15 80) ≡ true) × (name-allowed (replicate 16 80) ≡ false)
+unfolding rules
+case-10-names = (refl, refl)

@@ -1,0 +1,250 @@
+-- Worked values of the definitions, small enough to verify by hand, in the order of the definitions' files. Assumes
+-- nothing.
+use mathlib.Core.Path.{_≡_, refl}
+use mathlib.Core.Bool.{Bool, true, false}
+use mathlib.Core.List.{List, [], _∷_, _++_, map}
+use Prim.Native.Nat.{ℕ, _+_, _*_}
+use lib.Dec.{eqb, ltb}
+use lib.ListN.{take, drop, length, getD, replicate}
+use Rattle.rules.specs.Lists.{same, without, pairwise, keep, first}
+use Rattle.rules.specs.Bytes.{little-endian, bytes-of, field, block, up-to-zero, multiple}
+use Rattle.rules.specs.Answers.{refused, given, unless, _>>=_}
+use Rattle.rules.specs.Numbers.{setting, length-right, granule-right, addresses-right}
+use Rattle.rules.specs.Table.{Entry, entry, entry-count, entries, spt0-name, cpb0-name, cpb1-name, has-name, is-fixed-name, no-entry, named, cpb0-of, header-right, count-right, name-right, names-differ, range-aligned, range-inside, ranges-apart, six-named, boot-info-at-0, tables-as-told, on-granules, blocks-on-granules, table-stands, is-slot, starts}
+use Rattle.rules.specs.Pointers.{pointers-stand, places, erased-value, judged, order}
+use Rattle.rules.specs.Copies.{copy-read, pair-agrees, dump-stands, standing-dump}
+use Rattle.rules.specs.Readers.{order-in, row-after, slot-row, facts, name-in}
+use Rattle.rules.specs.Steps.{programmed, wiped, steps, programs, rewrite, rewrite-pair}
+use Rattle.rules.specs.Commands.{pointer-bytes, filled, pointers-of, free-place, is-first, into-place, append-steps, giving, into-places, half-cleared-names, padded-name, put-name, name-allowed, name-free, rename-steps, repair-pair, enable, disable, rename}
+use Rattle.rules.specs.Cuts.{Progress, run, may-run, runs, half-done, dropped}
+use Rattle.rules.specs.Book.{Reading, was-refused, finished, cut, how-ended, renamed, booked}
+use Rattle.rules.specs.Quarry.{quarry-setting, padded, entry-bytes, quarry-table, quarry-pointers}
+use Rattle.rules.specs.declared.Place.the-variants.{Erased, Live, Dead}
+use Rattle.rules.specs.declared.Step.{Step}
+use Rattle.rules.specs.declared.Step.the-variants.{Program, Erase}
+use Rattle.rules.proofs.Opened.{rules}
+
+-- three application slots' starts, slot number 0 first
+abbrev three-starts : List ℕ
+three-starts = 0x8000 ∷ 0x9000 ∷ 0xA000 ∷ []
+
+-- the quarry table
+unfoldable table : List ℕ
+table = quarry-table 0x8000 0x9000
+
+-- an entry of this name
+abbrev entry-named : List ℕ → Entry
+entry-named n = record { name-field = padded 16 0 n; start = 0; size = 0x1000; flags = 0 }
+
+-- an entry with this start and length
+abbrev range : ℕ → ℕ → Entry
+range start size = record { name-field = []; start = start; size = size; flags = 0 }
+
+-- stands in for a test of a block: it begins with a 1
+abbrev begins-with-1 : List ℕ → Bool
+begins-with-1 b = eqb (getD b 0 0) 1
+
+-- a job under way
+abbrev at : List ℕ → List Step → Progress
+at img ss = record { image = img; left = ss }
+
+-- ---- lists and bytes
+
+list-and-byte-examples :
+    (same (1 ∷ 2 ∷ []) (1 ∷ []) ≡ false)
+    × (without 1 (1 ∷ 2 ∷ 1 ∷ []) ≡ 2 ∷ [])
+    × (map (pairwise ltb) ((1 ∷ 2 ∷ 3 ∷ []) ∷ (1 ∷ 3 ∷ 2 ∷ []) ∷ []) ≡ true ∷ false ∷ [])
+    × (keep (ltb 1) (1 ∷ 2 ∷ 3 ∷ []) ≡ 2 ∷ 3 ∷ [])
+    × (map (λ n. first (ltb n) 0 (1 ∷ 2 ∷ 3 ∷ [])) (1 ∷ 9 ∷ []) ≡ 2 ∷ 0 ∷ [])
+    × (little-endian (0x34 ∷ 0x12 ∷ []) ≡ 0x1234)
+    × (bytes-of 3 0x1234 ≡ 0x34 ∷ 0x12 ∷ 0 ∷ [])
+    × (field 1 2 (9 ∷ 0x34 ∷ 0x12 ∷ 9 ∷ []) ≡ 0x1234)
+    × (block (1 ∷ 2 ∷ 3 ∷ []) 1 ≡ 2 ∷ 3 ∷ [])
+    × (up-to-zero (80 ∷ 49 ∷ 0 ∷ 51 ∷ []) ≡ 80 ∷ 49 ∷ [])
+    × (map (multiple 4096) (0 ∷ 0x3000 ∷ 0x3001 ∷ []) ≡ true ∷ true ∷ false ∷ [])
+unfolding rules table
+list-and-byte-examples = (refl, refl, refl, refl, refl, refl, refl, refl, refl, refl, refl)
+
+-- ---- answers, and refusals 1 to 3
+
+number-examples :
+    ((unless 7 false (given three-starts) >>= λ a. given (length a)) ≡ refused 7)
+    × ((unless 7 true (given three-starts) >>= λ a. given (length a)) ≡ given 3)
+    × (map length-right (0 ∷ 4096 ∷ 4097 ∷ 268435456 ∷ 268439552 ∷ []) ≡ false ∷ true ∷ false ∷ true ∷ false ∷ [])
+    × (map granule-right (4096 ∷ 8192 ∷ 32768 ∷ 65536 ∷ []) ≡ true ∷ false ∷ true ∷ true ∷ [])
+    × (map (addresses-right (setting 4096 0x4000 0x5000)) (0x6000 ∷ 0x5000 ∷ []) ≡ true ∷ false ∷ [])
+    × (addresses-right (setting 4096 0x4000 0x4000) 0x6000 ≡ false)
+    × (addresses-right (setting 32768 0x4000 0x8000) 0x20000 ≡ false)
+unfolding rules table
+number-examples = (refl, refl, refl, refl, refl, refl, refl)
+
+-- ---- the table
+
+entry-examples :
+    (entry-count table ≡ 9)
+    × (entry (entry-bytes (80 ∷ 49 ∷ []) 0x8000 0x2000 3)
+    ≡ record { name-field = 80 ∷ 49 ∷ replicate 14 0; start = 0x8000; size = 0x2000; flags = 3 })
+    × (has-name (80 ∷ 49 ∷ []) (entry-named (80 ∷ 49 ∷ [])) ≡ true)
+    × (map is-fixed-name (cpb1-name ∷ (67 ∷ 80 ∷ 66 ∷ 50 ∷ []) ∷ []) ≡ true ∷ false ∷ [])
+    × (cpb0-of table ≡ 0x6000)
+    × (named (80 ∷ []) (entries table) ≡ no-entry)
+unfolding rules table
+entry-examples = (refl, refl, refl, refl, refl, refl)
+
+-- rules 1 to 11, in their order
+rule-examples :
+    (map (λ n. header-right (bytes-of 4 0x57713427 ++ bytes-of 4 n)) (0 ∷ 1 ∷ []) ≡ true ∷ false ∷ [])
+    × (map (λ n. count-right (bytes-of 8 0 ++ bytes-of 4 n)) (0 ∷ 1 ∷ 127 ∷ 128 ∷ [])
+    ≡ false ∷ true ∷ true ∷ false ∷ [])
+    × (map (λ n. name-right (entry-named (replicate n 80))) (0 ∷ 1 ∷ 15 ∷ 16 ∷ []) ≡ false ∷ true ∷ true ∷ false ∷ [])
+    × (names-differ (entry-named (80 ∷ 0 ∷ 49 ∷ [])) (entry-named (80 ∷ 0 ∷ 50 ∷ [])) ≡ false)
+    × (map range-aligned (range 0x8000 0x1000 ∷ range 0x8000 0 ∷ range 0x8800 0x1000 ∷ range 0x8000 0x1800 ∷ [])
+    ≡ true ∷ false ∷ false ∷ false ∷ [])
+    × (map (range-inside 0x9000) (range 0x8000 0x1000 ∷ range 0x8000 0x1001 ∷ []) ≡ true ∷ false ∷ [])
+    × (map (ranges-apart (range 0x8000 0x1000))
+    (range 0x9000 0x1000 ∷ range 0x7000 0x1000 ∷ range 0x7000 0x1001 ∷ range 0x8FFF 0x1000 ∷ [])
+    ≡ true ∷ true ∷ false ∷ false ∷ [])
+    × (map (λ n. six-named (drop n (entries table))) (0 ∷ 1 ∷ []) ≡ true ∷ false ∷ [])
+    × (boot-info-at-0 (entries table) ≡ true)
+    × (tables-as-told (setting 4096 0x5000 0x4000) (entries table) ≡ false)
+    × (map (on-granules 32768) (range 0x8000 0x8000 ∷ range 0x8000 0x7000 ∷ range 0x4000 0x8000 ∷ [])
+    ≡ true ∷ false ∷ false ∷ [])
+    × (blocks-on-granules (setting 32768 0x4000 0x5000) (entries table) ≡ false)
+unfolding rules table
+rule-examples = (refl, refl, refl, refl, refl, refl, refl, refl, refl, refl, refl, refl)
+
+table-examples :
+    (map (λ n. table-stands quarry-setting n table) (0xB000 ∷ 0xA000 ∷ []) ≡ true ∷ false ∷ [])
+    × (map (λ n. is-slot (entry (entry-bytes (80 ∷ []) 0 0 n))) (0 ∷ 1 ∷ 2 ∷ 4 ∷ [])
+    ≡ true ∷ false ∷ false ∷ true ∷ [])
+    × (is-slot (entry-named cpb0-name) ≡ false)
+    × (starts table ≡ three-starts)
+unfolding rules table
+table-examples = (refl, refl, refl, refl)
+
+-- ---- pointer blocks
+
+pointer-examples :
+    (map pointers-stand (quarry-pointers [] ∷ table ∷ []) ≡ true ∷ false ∷ [])
+    × (take 3 (places (quarry-pointers (0x8000 ∷ 0 ∷ []))) ≡ 0x8000 ∷ 0 ∷ erased-value ∷ [])
+    × (length (places (quarry-pointers [])) ≡ 508)
+    × (map (judged three-starts) (erased-value ∷ 0x9000 ∷ 0x9001 ∷ 0 ∷ [])
+    ≡ Erased ∷ Live (record { 0 = 1 }) ∷ Dead ∷ Dead ∷ [])
+    × (order three-starts (0x8000 ∷ 0x9000 ∷ 0 ∷ 0x8000 ∷ erased-value ∷ []) ≡ 0 ∷ 1 ∷ [])
+unfolding rules table
+pointer-examples = (refl, refl, refl, refl, refl)
+
+-- ---- copies and dumps
+
+copy-and-dump-examples :
+    (copy-read 4 begins-with-1 (1 ∷ 1 ∷ []) 0 1 ≡ given 0)
+    × (copy-read 4 begins-with-1 (2 ∷ 1 ∷ []) 0 1 ≡ given 1)
+    × (copy-read 4 begins-with-1 (2 ∷ 2 ∷ []) 0 1 ≡ refused 4)
+    × (pair-agrees begins-with-1 (1 ∷ 1 ∷ []) 0 1 ≡ false)
+    × (map (λ b. pair-agrees begins-with-1 (b ∷ []) 0 0) (1 ∷ 2 ∷ []) ≡ true ∷ false ∷ [])
+    × (standing-dump (quarry-pointers []) (quarry-pointers (0 ∷ [])) ≡ quarry-pointers [])
+    × (standing-dump (quarry-pointers []) (0 ∷ []) ≡ quarry-pointers [])
+    × (standing-dump (0 ∷ []) (quarry-pointers []) ≡ quarry-pointers [])
+    × (standing-dump (0 ∷ []) [] ≡ [])
+    × (dump-stands (quarry-pointers [] ++ (0xFF ∷ [])) ≡ false)
+unfolding rules table
+copy-and-dump-examples = (refl, refl, refl, refl, refl, refl, refl, refl, refl, refl)
+
+-- ---- readers
+
+reader-examples :
+    (order-in (1 ∷ 0 ∷ []) 2 ≡ given (1 ∷ 0 ∷ []))
+    × (order-in (1 ∷ 0 ∷ []) 1 ≡ refused 13)
+    × (row-after (given (1 ∷ 0 ∷ [])) (7 ∷ 8 ∷ 9 ∷ []) ≡ 1 ∷ 0 ∷ 9 ∷ [])
+    × (row-after (refused 13) (7 ∷ 8 ∷ 9 ∷ []) ≡ 7 ∷ 8 ∷ 9 ∷ [])
+    × (map (slot-row (entries table)) (0 ∷ 2 ∷ 3 ∷ []) ≡ 6 ∷ 8 ∷ 9 ∷ [])
+    × (facts (entries table) 1 .start ≡ 0x9000)
+    × (map (name-in (entries table)) (1 ∷ 3 ∷ []) ≡ (80 ∷ 50 ∷ []) ∷ [] ∷ [])
+unfolding rules table
+reader-examples = (refl, refl, refl, refl, refl, refl, refl)
+
+-- ---- steps of the device
+
+step-examples :
+    (programmed 1 0x0F (0xFF ∷ 0x35 ∷ 0xFF ∷ []) ≡ 0xFF ∷ 0x05 ∷ 0xFF ∷ [])
+    × (wiped 1 2 (1 ∷ 2 ∷ 3 ∷ 4 ∷ []) ≡ 1 ∷ 0xFF ∷ 0xFF ∷ 4 ∷ [])
+    × (steps 2 (Erase 0 ∷ Program 0 5 ∷ []) (1 ∷ 2 ∷ 3 ∷ []) ≡ 5 ∷ 0xFF ∷ 3 ∷ [])
+    × (programs 8 (1 ∷ 2 ∷ []) ≡ Program 8 1 ∷ Program 9 2 ∷ [])
+    × (rewrite 8 (1 ∷ 2 ∷ 3 ∷ 4 ∷ 5 ∷ [])
+    ≡ Erase 8 ∷ Program 12 5 ∷ Program 8 1 ∷ Program 9 2 ∷ Program 10 3 ∷ Program 11 4 ∷ [])
+    × (rewrite-pair 0 8 (1 ∷ []) ≡ Erase 8 ∷ Program 8 1 ∷ Erase 0 ∷ Program 0 1 ∷ [])
+unfolding rules table
+step-examples = (refl, refl, refl, refl, refl, refl)
+
+-- ---- commands
+
+enable-examples :
+    (pointers-of three-starts (2 ∷ 0 ∷ []) ≡ 0x8000 ∷ 0xA000 ∷ [])
+    × (pointer-bytes (0x8000 ∷ []) ≡ 0 ∷ 0x80 ∷ 0 ∷ 0 ∷ 0 ∷ 0 ∷ 0 ∷ 0 ∷ [])
+    × (filled (quarry-pointers (1 ∷ 2 ∷ 3 ∷ [])) (0xA000 ∷ []) ≡ quarry-pointers (0xA000 ∷ []))
+    × (free-place three-starts (0x8000 ∷ erased-value ∷ 0 ∷ erased-value ∷ erased-value ∷ []) ≡ 3)
+    × (map (λ v. free-place three-starts (erased-value ∷ v ∷ [])) (erased-value ∷ 0x8000 ∷ []) ≡ 0 ∷ 2 ∷ [])
+    × (map (λ k. is-first k (1 ∷ 0 ∷ [])) (1 ∷ 0 ∷ []) ≡ true ∷ false ∷ [])
+    × (into-place 0x7000 0x20 (5 ∷ 6 ∷ []) 2 ≡ Program 0x7030 5 ∷ Program 0x7031 6 ∷ [])
+    × (take 2 (append-steps 0x6000 0x7000 0x20 2 0x8000) ≡ Program 0x7030 0 ∷ Program 0x7031 0x80 ∷ [])
+    × (take 2 (drop 8 (append-steps 0x6000 0x7000 0x20 2 0x8000)) ≡ Program 0x6030 0 ∷ Program 0x6031 0x80 ∷ [])
+unfolding rules table
+enable-examples = (refl, refl, refl, refl, refl, refl, refl, refl, refl)
+
+disable-examples :
+    (giving three-starts 0 0 (0x8000 ∷ 0x9000 ∷ 0 ∷ 0x8000 ∷ erased-value ∷ []) ≡ 0 ∷ 3 ∷ [])
+    × (into-places 0x7000 0x20 (0 ∷ []) (0 ∷ 3 ∷ []) ≡ Program 0x7020 0 ∷ Program 0x7038 0 ∷ [])
+    × (map (half-cleared-names (0x11000 ∷ 0x10000 ∷ [])) (0x11000 ∷ 0x10000 ∷ []) ≡ true ∷ false ∷ [])
+    × (half-cleared-names (0x1001000 ∷ 0x1000000 ∷ []) 0x1001000 ≡ true)
+unfolding rules table
+disable-examples = (refl, refl, refl, refl)
+
+rename-and-repair-examples :
+    (padded-name (80 ∷ 49 ∷ []) ≡ 80 ∷ 49 ∷ replicate 14 0)
+    × (take 4 (drop (0x20 + 32 * 6) (put-name table 6 (65 ∷ []))) ≡ 65 ∷ 0 ∷ 0 ∷ 0 ∷ [])
+    × (map name-allowed ([] ∷ (80 ∷ []) ∷ (80 ∷ 0 ∷ []) ∷ spt0-name ∷ []) ≡ false ∷ true ∷ false ∷ false ∷ [])
+    × (map (λ row. name-free (entries table) row (80 ∷ 50 ∷ [])) (6 ∷ 7 ∷ []) ≡ false ∷ true ∷ [])
+    × (rename-steps 0x4000 0x5000 table 1 (80 ∷ 50 ∷ []) ≡ [])
+    × (length (rename-steps 0x4000 0x5000 table 1 (65 ∷ [])) ≡ 8194)
+    × (repair-pair begins-with-1 (1 ∷ 1 ∷ []) 0 1 0 ≡ rewrite 1 (1 ∷ 1 ∷ []))
+    × (repair-pair begins-with-1 (2 ∷ 1 ∷ []) 0 1 1 ≡ rewrite 0 (1 ∷ []))
+    × (repair-pair begins-with-1 (1 ∷ []) 0 0 0 ≡ [])
+unfolding rules table
+rename-and-repair-examples = (refl, refl, refl, refl, refl, refl, refl, refl, refl)
+
+-- ---- runs and cuts
+
+run-and-cut-examples :
+    (run 1 0 (at (7 ∷ []) (Erase 0 ∷ [])) ≡ at (7 ∷ []) (Erase 0 ∷ []))
+    × (run 1 1 (at (7 ∷ []) (Erase 0 ∷ Program 0 3 ∷ [])) ≡ at (0xFF ∷ []) (Program 0 3 ∷ []))
+    × (run 1 9 (at (7 ∷ []) (Erase 0 ∷ Program 0 3 ∷ [])) ≡ at (3 ∷ []) [])
+    × (runs 1 (1 ∷ 0 ∷ 1 ∷ []) (at (7 ∷ []) (Erase 0 ∷ Program 0 3 ∷ [])) ≡ at (3 ∷ []) [])
+    × (may-run 1 2 (at (7 ∷ []) []) ≡ refused 11)
+    × (may-run 1 2 (at (7 ∷ []) (Program 0 3 ∷ [])) ≡ refused 12)
+    × (may-run 1 1 (at (7 ∷ []) (Program 0 3 ∷ Program 1 3 ∷ [])) ≡ refused 12)
+    × (may-run 2 1 (at (7 ∷ []) (Erase 0 ∷ [])) ≡ refused 12)
+    × (may-run 1 1 (at (7 ∷ []) (Erase 0 ∷ [])) ≡ given (at (7 ∷ []) (Erase 0 ∷ [])))
+    × (half-done 3 2 (Erase 0 ∷ []) (1 ∷ 2 ∷ 3 ∷ []) ≡ 0xFF ∷ 0xFF ∷ 3 ∷ [])
+    × (half-done 3 9 (Erase 0 ∷ []) (1 ∷ 2 ∷ 3 ∷ 4 ∷ []) ≡ 0xFF ∷ 0xFF ∷ 0xFF ∷ 4 ∷ [])
+    × (half-done 3 2 (Program 0 0 ∷ []) (1 ∷ 2 ∷ 3 ∷ []) ≡ 1 ∷ 2 ∷ 3 ∷ [])
+    × (dropped 3 0 (at (1 ∷ 2 ∷ 3 ∷ []) (Erase 0 ∷ [])) ≡ 1 ∷ 2 ∷ 3 ∷ [])
+unfolding rules table
+run-and-cut-examples = (refl, refl, refl, refl, refl, refl, refl, refl, refl, refl, refl, refl, refl)
+
+-- ---- the book
+
+-- a reading with this order
+abbrev book : List ℕ → Reading
+book o = record { table = table; boot = o }
+
+book-examples :
+    (map how-ended ([] ∷ (Erase 0 ∷ []) ∷ []) ≡ finished ∷ cut ∷ [])
+    × (booked (enable 2) was-refused true (book (1 ∷ 0 ∷ [])) ≡ book (1 ∷ 0 ∷ []))
+    × (booked (enable 2) finished false (book (1 ∷ 0 ∷ [])) ≡ book (2 ∷ 1 ∷ 0 ∷ []))
+    × (booked (enable 0) cut true (book (1 ∷ 0 ∷ [])) ≡ book (0 ∷ 1 ∷ []))
+    × (booked (enable 0) cut false (book (1 ∷ 0 ∷ [])) ≡ book (1 ∷ 0 ∷ []))
+    × (booked (disable 1) finished false (book (1 ∷ 0 ∷ [])) ≡ book (0 ∷ []))
+    × (booked (rename 1 (80 ∷ 50 ∷ [])) finished true (book []) ≡ book [])
+    × (name-in (entries (renamed table 1 (65 ∷ []))) 1 ≡ 65 ∷ [])
+unfolding rules table
+book-examples = (refl, refl, refl, refl, refl, refl, refl, refl)

@@ -1,0 +1,139 @@
+-- "The book of demand 3": the reading of a flash, a list of items, and the book that it is compared with. Assumes
+-- nothing.
+use mathlib.Core.Path.{_≡_}
+use mathlib.Core.Bool.{Bool, true, false, cond}
+use mathlib.Core.List.{List, [], _∷_}
+use Prim.Native.Nat.{ℕ, _+_, _≤_, _<_}
+use lib.ListN.{getD, length}
+use Rattle.rules.specs.Lists.{without}
+use Rattle.rules.specs.Bytes.{block, Bytes}
+use Rattle.rules.specs.Answers.{Answer, refused, given, _>>=_}
+use Rattle.rules.specs.Numbers.{Setting}
+use Rattle.rules.specs.Table.{entries, cpb0-of, cpb1-of}
+use Rattle.rules.specs.Copies.{view, boot-order, pairs-agree}
+use Rattle.rules.specs.Readers.{slot-row}
+use Rattle.rules.specs.Commands.{Command, enable, disable, rename, repair, has-already, put-name, start}
+use Rattle.rules.specs.Cuts.{Progress, runs, dropped}
+use Rattle.rules.specs.declared.Step.{Step}
+use Rattle.rules.specs.declared.View.{View}
+
+-- ---- the reading
+
+-- "the 4,096 bytes of the table copy read, and the boot order" (document 01's term)
+pub record Reading : Type 0 where
+  pub table : List ℕ
+  pub boot : List ℕ
+
+unfoldable pub read-by : List ℕ → View → Reading
+read-by img v = record { table = block img (v .table); boot = boot-order img v }
+
+unfoldable pub reading : Setting → List ℕ → Answer Reading
+reading s img = view s img >>= λ v. given (read-by img v)
+
+-- ---- items
+
+-- a command with its arguments, the budgets of the runs of its job, and how far a cut inside an erase got
+pub record Item : Type 0 where
+  pub command : Command
+  pub budgets : List ℕ
+  pub wiped : ℕ
+
+pub data Outcome : Type 0 where
+  was-refused finished cut : Outcome
+
+-- finished if all listed steps are done, else cut
+unfoldable pub how-ended : List Step → Outcome
+how-ended [] = finished
+how-ended (s ∷ ss) = cut
+
+unfoldable pub progress : ℕ → Item → List ℕ → List Step → Progress
+progress g i img ss = runs g (i .budgets) (record { image = img; left = ss })
+
+unfoldable pub left-by : ℕ → Item → List ℕ → Answer (List Step) → List ℕ
+left-by g i img (refused n) = img
+left-by g i img (given ss) = dropped g (i .wiped) (progress g i img ss)
+
+-- the flash that an item leaves
+unfoldable pub flash-after : Setting → List ℕ → Item → List ℕ
+flash-after s img i = left-by (s .granule) i img (start s img (i .command))
+
+unfoldable pub ended-by : ℕ → Item → List ℕ → Answer (List Step) → Outcome
+ended-by g i img (refused n) = was-refused
+ended-by g i img (given ss) = how-ended (progress g i img ss .left)
+
+-- which of the three an item was
+unfoldable pub outcome : Setting → List ℕ → Item → Outcome
+outcome s img i = ended-by (s .granule) i img (start s img (i .command))
+
+-- ---- the book
+
+-- the table with the name in the entry of a slot; no change if it is the same up to the zero
+unfoldable pub renamed : List ℕ → ℕ → List ℕ → List ℕ
+renamed t k n = cond (has-already (entries t) k n) t (put-name t (slot-row (entries t) k) n)
+
+-- the change that a command stands for
+unfoldable pub changed : Command → Reading → Reading
+changed (enable k) r = record { table = r .table; boot = k ∷ without k (r .boot) }
+changed (disable k) r = record { table = r .table; boot = without k (r .boot) }
+changed (rename k n) r = record { table = renamed (r .table) k n; boot = r .boot }
+changed repair r = r
+
+-- the book is fed the command and which of the three it was; a cut one made its change or none, by a choice
+unfoldable pub booked : Command → Outcome → Bool → Reading → Reading
+booked c was-refused choice r = r
+booked c finished choice r = changed c r
+booked c cut choice r = cond choice (changed c r) r
+
+-- ---- the claim
+
+-- an address inside the granule at a start
+unfoldable pub in-granule : Setting → ℕ → ℕ → Type 0
+in-granule s start i = (start ≤ i) × (i < start + s .granule)
+
+-- as long as the first image, and equal to it outside the first granules of the four blocks, as a table places them
+pub record Untouched (s : Setting) (t first img : List ℕ) : Type 0 where
+  pub same-length : length img ≡ length first
+  pub same-bytes : (i : ℕ)
+      → (in-granule s (s .spt0) i → ⊥)
+      → (in-granule s (s .spt1) i → ⊥)
+      → (in-granule s (cpb0-of t) i → ⊥)
+      → (in-granule s (cpb1-of t) i → ⊥)
+      → getD img i 0 ≡ getD first i 0
+
+-- "After every finished item both pairs agree"
+unfoldable pub agree-if-finished : Setting → List ℕ → Outcome → Type 0
+agree-if-finished s img was-refused = Unit {0}
+agree-if-finished s img finished = pairs-agree s img ≡ true
+agree-if-finished s img cut = Unit {0}
+
+-- what holds after one item: the flash, and the book's reading by then
+pub record Holds (s : Setting) (t first img : List ℕ) (ended : Outcome) (r : Reading) : Type 0 where
+  pub reads : reading s img ≡ given r
+  pub agrees : agree-if-finished s img ended
+  pub untouched : Untouched s t first img
+
+-- the same after every item of a list, with one choice for each, from a flash and a book's reading on
+module _ (s : Setting) (t first : List ℕ) where
+  unfoldable pub follows : List Item → List Bool → List ℕ → Reading → Type 0
+  follows [] choices img r = Unit {0}
+  follows (i ∷ is) [] img r = ⊥
+  follows (i ∷ is) (b ∷ bs) img r =
+      Holds s t first (flash-after s img i) (outcome s img i) (booked (i .command) (outcome s img i) b r)
+      × follows is bs (flash-after s img i) (booked (i .command) (outcome s img i) b r)
+
+-- the elements of the names among the items are bytes
+unfoldable pub name-bytes : Command → Type 0
+name-bytes (enable k) = Unit {0}
+name-bytes (disable k) = Unit {0}
+name-bytes (rename k n) = Bytes n
+name-bytes repair = Unit {0}
+
+unfoldable pub names-bytes : List Item → Type 0
+names-bytes [] = Unit {0}
+names-bytes (i ∷ is) = name-bytes (i .command) × names-bytes is
+
+-- document 01's claim about a list of items from this flash: it has a reading, and there is one choice for each item
+-- with which the book follows the flash through the whole list
+unfoldable pub Demand3 : Setting → List ℕ → List Item → Type 0
+Demand3 s img is =
+    (r : Reading) × (reading s img ≡ given r) × ((choices : List Bool) × follows s (r .table) img is choices img r)

@@ -1,0 +1,15 @@
+pub mod Lists
+pub mod Bytes
+pub mod Answers
+pub mod Numbers
+pub mod Table
+pub mod Pointers
+pub mod Copies
+pub mod Readers
+pub mod Steps
+pub mod Commands
+pub mod Cuts
+pub mod Book
+pub mod Quarry
+pub mod Final
+pub mod Cases

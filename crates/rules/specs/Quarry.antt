@@ -1,0 +1,76 @@
+-- "The quarry image" and its variants, byte for byte. Assumes nothing.
+use mathlib.Core.List.{List, [], _∷_, _++_}
+use Prim.Native.Nat.{ℕ, zero, suc, _+_, _*_, _-_}
+use lib.ListN.{take, drop, length, replicate}
+use Rattle.rules.specs.Bytes.{bytes-of, block-size, erased-byte}
+use Rattle.rules.specs.Numbers.{Setting, setting}
+use Rattle.rules.specs.Table.{boot-info, factory-image, spt0-name, spt1-name, cpb0-name, cpb1-name}
+use Rattle.rules.specs.Pointers.{erased-value}
+use Rattle.rules.specs.Commands.{pointer-bytes}
+
+-- granule 4,096, SPT0 at 0x4000, SPT1 at 0x5000
+unfoldable pub quarry-setting : Setting
+quarry-setting = setting 4096 0x4000 0x5000
+
+-- bytes, and after them as many of one byte as make n
+unfoldable pub padded : ℕ → ℕ → List ℕ → List ℕ
+padded n b bs = bs ++ replicate (n - length bs) b
+
+unfoldable pub entry-bytes : List ℕ → ℕ → ℕ → ℕ → List ℕ
+entry-bytes n start size flags = padded 16 0 n ++ (bytes-of 8 start ++ (bytes-of 4 size ++ bytes-of 4 flags))
+
+-- the table, with the starts of P1 and P2
+unfoldable pub quarry-table : ℕ → ℕ → List ℕ
+quarry-table p1 p2 =
+    padded block-size 0
+    (bytes-of 4 0x57713427 ++ (bytes-of 4 0 ++ (bytes-of 4 9 ++ (replicate 20 0
+    ++ (entry-bytes boot-info 0x0000 0x2000 1
+    ++ (entry-bytes factory-image 0x2000 0x2000 1
+    ++ (entry-bytes spt0-name 0x4000 0x1000 1
+    ++ (entry-bytes spt1-name 0x5000 0x1000 1
+    ++ (entry-bytes cpb0-name 0x6000 0x1000 1
+    ++ (entry-bytes cpb1-name 0x7000 0x1000 1
+    ++ (entry-bytes (80 ∷ 49 ∷ []) p1 0x1000 0
+    ++ (entry-bytes (80 ∷ 50 ∷ []) p2 0x1000 0
+    ++ entry-bytes (80 ∷ 51 ∷ []) 0xA000 0x1000 0))))))))))))
+
+-- the pointer block, with the pointers of its lowest places
+unfoldable pub quarry-pointers : List ℕ → List ℕ
+quarry-pointers vs =
+    padded block-size erased-byte
+    (bytes-of 4 0x57789609 ++ (bytes-of 4 0x18 ++ (bytes-of 4 block-size ++ (bytes-of 4 0
+    ++ (bytes-of 4 0x20 ++ (bytes-of 4 508 ++ (bytes-of 8 0 ++ pointer-bytes vs)))))))
+
+-- an image of a length, from a table and a pointer block: both copies are equal, the rest is 0xFF
+unfoldable pub image : ℕ → List ℕ → List ℕ → List ℕ
+image len t p = replicate 0x4000 erased-byte ++ (t ++ (t ++ (p ++ (p ++ replicate (len - 0x8000) erased-byte))))
+
+-- the quarry image with these pointers from place 0 up
+unfoldable pub quarry-with : List ℕ → List ℕ
+quarry-with vs = image 65536 (quarry-table 0x8000 0x9000) (quarry-pointers vs)
+
+unfoldable pub quarry : List ℕ
+quarry = quarry-with (0x8000 ∷ 0x9000 ∷ [])
+
+-- case 7: the start of P2 also at place k, which is then the highest used; the places between are erased
+unfoldable pub quarry-used-to : ℕ → List ℕ
+quarry-used-to k = quarry-with (0x8000 ∷ 0x9000 ∷ (replicate (k - 2) erased-value ++ (0x9000 ∷ [])))
+
+-- case 9: P1 moved to 0x11000 and P2 to 0x10000, places 0 and 1 holding these
+unfoldable pub quarry-moved : List ℕ
+quarry-moved = image 73728 (quarry-table 0x11000 0x10000) (quarry-pointers (0x11000 ∷ 0x10000 ∷ []))
+
+-- n slots of 0x1000 one after the other, named Q and a number
+unfoldable pub more-entries : ℕ → ℕ → List ℕ
+more-entries zero start = []
+more-entries (suc n) start = entry-bytes (81 ∷ suc n ∷ []) start 0x1000 0 ++ more-entries n (start + 0x1000)
+
+-- case 10: the quarry table with 118 more slots from 0xB000 on, which make 127 entries, and this count
+unfoldable pub longer-table : ℕ → List ℕ
+longer-table n =
+    take 8 (quarry-table 0x8000 0x9000)
+    ++ (bytes-of 4 n ++ (take (20 + 32 * 9) (drop 12 (quarry-table 0x8000 0x9000)) ++ more-entries 118 0xB000))
+
+-- the length of an image that ends with the last of them
+abbrev pub longer-length : ℕ
+longer-length = 0x81000

@@ -1,0 +1,41 @@
+// The types that the definitions and the code share.
+
+// The number of an entry: its row in the sub-partition table, from 0.
+pub struct EntryNo(pub usize);
+
+// The number of a slot: application slots only, in table order, from 0.
+pub struct SlotNo(pub u32);
+
+// The number of a pointer place in a pointer block, from 0.
+pub struct PlaceNo(pub usize);
+
+// What one pointer place holds: document 01's "erased", "live" and "dead".
+pub enum Place {
+    Erased,
+    Live(SlotNo),
+    Dead,
+}
+
+// Where the four blocks are, and the addresses of the two copies that are read.
+pub struct View {
+    pub spt0: usize,
+    pub spt1: usize,
+    pub cpb0: usize,
+    pub cpb1: usize,
+    pub table: usize,
+    pub pointers: usize,
+}
+
+// What is known of an application slot, beside its name.
+pub struct Facts {
+    pub entry: EntryNo,
+    pub start: u64,
+    pub size: u64,
+    pub flags: u64,
+}
+
+// One step of the device: a byte programmed at an address, or the granule at an address erased.
+pub enum Step {
+    Program(usize, u8),
+    Erase(usize),
+}
