@@ -1,0 +1,71 @@
+-- `entries::find_named` meets its contract. The loop's invariant: the place found is i and the place found in what is
+-- left. Assumes nothing.
+use mathlib.Core.Path.{_≡_, sym, _∙_}
+use Prim.Native.Nat.{_+_, _-_, _≤_}
+use native.Mathlib.Omega.{arith}
+use lib.ListN.{drop}
+use borrow.Author.Needs.{needs}
+use Rattle.rules.specs.Bytes.{up-to-zero}
+use Rattle.rules.specs.Table.{rows, has-name}
+use Rattle.walks.specs.Find.{find}
+use Rattle.walks.proofs.Entries.{entries-turn, entries-end}
+use Rattle.walks.proofs.Loops.{find-over, find-here, find-goes}
+use Rattle.entries.proofs.find_named.Statement.{statement}
+use Rattle.entries.proofs.find_named.Tie as tie
+
+abbrev Inv-loop : tie.InvT-loop
+Inv-loop table n wanted i₀ i =
+    let wants = has-name (up-to-zero wanted) in
+    (i ≤ n) × (find wants (rows n table) ≡ i + find wants (drop i (rows n table)))
+
+abbrev μ-loop : tie.MeasureT-loop
+μ-loop table n wanted i₀ i = n - i
+
+loop-holds : tie.Need-loop-holds Inv-loop μ-loop
+loop-holds c = (omega arith, omega arith)
+
+has-name-requires : tie.Need-has-name-requires Inv-loop μ-loop
+has-name-requires c κs = search needs
+
+returns : tie.Need-returns Inv-loop μ-loop
+returns c =
+    let at = c .before .before .before in
+    let a = at .before .before .before .args in
+    let turn = entries-turn (a .n) (at .loop .i) (a .table .now) (omega arith) in
+    let has = sym (c .before .has-name .ensures) ∙ c .if1 .taken in
+    (omega (arith, find-here (has-name (up-to-zero (a .wanted .now))) turn has), omega arith)
+
+add-i : tie.Need-add-i Inv-loop μ-loop
+add-i c = search needs
+
+loop-less : tie.Need-loop-less Inv-loop μ-loop
+loop-less c = search needs
+
+loop-again : tie.Need-loop-again Inv-loop μ-loop
+loop-again c =
+    let at = c .before .before .before in
+    let a = at .before .before .before .args in
+    let turn = entries-turn (a .n) (at .loop .i) (a .table .now) (omega arith) in
+    let has-not = sym (c .before .has-name .ensures) ∙ c .if1 .left in
+    (omega arith, omega (arith, find-goes (has-name (up-to-zero (a .wanted .now))) turn has-not))
+
+returns-2 : tie.Need-returns-2 Inv-loop μ-loop
+returns-2 c =
+    let at = c .before in
+    let a = at .before .before .before .args in
+    let end = entries-end (a .n) (at .loop .i) (a .table .now) (omega arith) in
+    (omega (arith, find-over (has-name (up-to-zero (a .wanted .now))) end), omega arith)
+
+pub find-named-spec : {M : Type 1} → statement M
+find-named-spec =
+    tie.close
+    (tie.spec
+    Inv-loop
+    μ-loop
+    loop-holds
+    has-name-requires
+    returns
+    add-i
+    loop-less
+    loop-again
+    returns-2)

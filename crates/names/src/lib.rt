@@ -1,0 +1,47 @@
+// Names up to their zero byte: how long one is, and whether two are the same.
+ghost use mathlib.Core.Path.{_≡_};
+ghost use Prim.Native.Nat.{_≤_};
+ghost use lib.ListN.{length, getD};
+ghost use Rattle.rules.specs.Lists.{same};
+ghost use Rattle.rules.specs.Bytes.{up-to-zero};
+
+// How many bytes are before the first zero.
+pub fn name_length(s: &[u8]) -> usize
+    ensures { λ r. ⌜ (r ≡ length (up-to-zero (now (s .entry)))) × (r ≤ length (now (s .entry))) ⌝ }
+{
+    let mut i = 0;
+    while i < s.len() {
+        if s[i] == 0 {
+            return i;
+        }
+        i += 1;
+    }
+    i
+}
+
+// The two names are equal up to their zero bytes.
+pub fn same_name(a: &[u8], b: &[u8]) -> bool
+    ensures { λ r. ⌜ r ≡ same (up-to-zero (now (a .entry))) (up-to-zero (now (b .entry))) ⌝ }
+{
+    let mut i = 0;
+    while i < a.len() {
+        let x = a[i];
+        let y = byte_or_zero(b, i);
+        if x != y {
+            return false;
+        }
+        if x == 0 {
+            return true;
+        }
+        i += 1;
+    }
+    let last = byte_or_zero(b, i);
+    last == 0
+}
+
+// The byte at an index, or 0 past the end, where a name ends too.
+fn byte_or_zero(s: &[u8], i: usize) -> u8
+    ensures { λ r. ⌜ r ≡ getD (now (s .entry)) i 0 ⌝ }
+{
+    if i < s.len() { s[i] } else { 0 }
+}

@@ -1,0 +1,34 @@
+-- The places of a pointer block by number, and where they lie in a block that stands. Assumes nothing.
+use mathlib.Core.Path.{_≡_, refl}
+use mathlib.Core.List.{List, [], _∷_}
+use Prim.Native.Nat.{ℕ, _+_, _*_, _≤_, _<_}
+use native.Mathlib.Omega.{arith}
+use lib.ListN.{take, drop, drop-of-length-le}
+use Rattle.rules.specs.Bytes.{little-endian, field, block-size}
+use Rattle.rules.specs.Pointers.{place-offset, place-count, values, places}
+use Rattle.rules.proofs.Words.{length-values}
+use Rattle.rules.proofs.PointerHeader.{places-fit}
+use Rattle.walks.proofs.Rows.{rows-turn}
+use Rattle.places.specs.StandingPointers.{StandingPointers}
+use Rattle.places.specs.Added.{place-value}
+
+-- ---- by number
+
+module _ (p : List ℕ) (k : ℕ) where
+  -- one turn of a walk over the places
+  pub place-turn : k < place-count p → drop k (places p) ≡ place-value p k ∷ drop (k + 1) (places p)
+  unfolding places place-value values field
+  place-turn h =
+      rows-turn 8 (λ bs. little-endian (take 8 bs)) values (λ n bs. refl) (place-count p) k (place-offset p) p h
+
+  -- and its end
+  pub place-over : place-count p ≤ k → drop k (places p) ≡ []
+  unfolding places
+  place-over h =
+      drop-of-length-le (values (place-count p) (drop (place-offset p) p)) {i = k} (rw length-values h)
+
+-- ---- in a block that stands
+
+pub place-inside : (p : List ℕ) (k : ℕ) → StandingPointers p → k < place-count p
+    → place-offset p + 8 * k + 8 ≤ block-size
+place-inside p k h within = omega (arith, places-fit p (h .stands) .in-block)

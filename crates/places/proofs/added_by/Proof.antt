@@ -1,0 +1,78 @@
+-- `places::added_by` is what a place adds to the order: one case for each judgement, two for a live place.
+-- Assumes nothing.
+use mathlib.Core.Path.{sym, _∙_}
+use borrow.Author.Needs.{needs}
+use Rattle.places.specs.Added.{added-at, added}
+use Rattle.places.proofs.added_by.Statement.{statement}
+use Rattle.places.proofs.added_by.Tie as tie
+
+place-value-requires : tie.Need-place-value-requires
+place-value-requires c κs = search needs
+
+judge-requires : tie.Need-judge-requires
+judge-requires c κs = search needs
+
+enum-told : tie.Need-enum-told
+enum-told c = search needs
+
+enum-told-2 : tie.Need-enum-told-2
+enum-told-2 c = search needs
+
+enum-known-judgement : tie.Need-enum-known-judgement
+enum-known-judgement c = search needs
+
+held-above-requires : tie.Need-held-above-requires
+held-above-requires c κs = search needs
+
+returns : tie.Need-returns
+unfolding added-at added
+returns c =
+    let held = c .before in
+    let live = held .before .before in
+    let judged = live .before .before in
+    rw (
+      ← judged .before .place-value .ensures,
+      ← judged .judge .ensures,
+      live .judgement .given .1,
+      sym (held .held-above .ensures) ∙ c .if1 .taken,
+    )
+
+returns-2 : tie.Need-returns-2
+unfolding added-at added
+returns-2 c =
+    let judged = c .before .before in
+    rw (← judged .before .place-value .ensures, ← judged .judge .ensures, c .enum-told .given .1)
+
+returns-3 : tie.Need-returns-3
+unfolding added-at added
+returns-3 c =
+    let judged = c .before .before in
+    rw (← judged .before .place-value .ensures, ← judged .judge .ensures, c .enum-told2 .given .1)
+
+returns-4 : tie.Need-returns-4
+unfolding added-at added
+returns-4 c =
+    let held = c .before in
+    let live = held .before .before in
+    let judged = live .before .before in
+    rw (
+      ← judged .before .place-value .ensures,
+      ← judged .judge .ensures,
+      live .judgement .given .1,
+      sym (held .held-above .ensures) ∙ c .if1 .left,
+    )
+
+pub added-by-spec : {M : Type 1} → statement M
+added-by-spec =
+    tie.close
+    (tie.spec
+    place-value-requires
+    judge-requires
+    enum-told
+    enum-told-2
+    enum-known-judgement
+    held-above-requires
+    returns
+    returns-2
+    returns-3
+    returns-4)

@@ -1,0 +1,79 @@
+-- `places::held_above` walks the places above one. The invariant: what is left to walk decides. Assumes nothing.
+use mathlib.Core.Path.{_≡_, refl, sym, _∙_}
+use Prim.Native.Nat.{_-_, _≤_}
+use native.Mathlib.Omega.{arith}
+use lib.ListN.{drop}
+use borrow.Author.Needs.{needs}
+use Rattle.rules.specs.Lists.{member}
+use Rattle.rules.specs.Pointers.{places}
+use Rattle.walks.proofs.Loops.{member-here, member-goes, member-over}
+use Rattle.places.proofs.Values.{place-turn, place-over}
+use Rattle.places.proofs.held_above.Statement.{statement}
+use Rattle.places.proofs.held_above.Tie as tie
+
+abbrev Inv-loop : tie.InvT-loop
+Inv-loop p v count k₀ k = (k ≤ count) × (member v (drop k₀ (places p)) ≡ member v (drop k (places p)))
+
+abbrev μ-loop : tie.MeasureT-loop
+μ-loop p v count k₀ k = count - k
+
+place-count-requires : tie.Need-place-count-requires Inv-loop μ-loop
+place-count-requires c κs = search needs
+
+add-k : tie.Need-add-k Inv-loop μ-loop
+add-k c = omega arith
+
+loop-holds : tie.Need-loop-holds Inv-loop μ-loop
+loop-holds c = (omega arith, refl)
+
+place-value-requires : tie.Need-place-value-requires Inv-loop μ-loop
+place-value-requires c κs = search needs
+
+returns : tie.Need-returns Inv-loop μ-loop
+returns c =
+    let value = c .before in
+    let at = value .before .before in
+    let a = at .before .before .before .before .args in
+    sym
+    (at .loop .inv .1
+    ∙ member-here (a .v) (place-turn (a .p .now) (at .loop .k) (omega arith))
+    (c .if1 .taken ∙ value .place-value .ensures))
+
+add-k-2 : tie.Need-add-k-2 Inv-loop μ-loop
+add-k-2 c = search needs
+
+loop-less : tie.Need-loop-less Inv-loop μ-loop
+loop-less c = search needs
+
+loop-again : tie.Need-loop-again Inv-loop μ-loop
+loop-again c =
+    let value = c .before in
+    let at = value .before .before in
+    let a = at .before .before .before .before .args in (
+      omega arith,
+      at .loop .inv .1
+          ∙ member-goes (a .v) (place-turn (a .p .now) (at .loop .k) (omega arith))
+          (λ e. c .if1 .left (e ∙ sym (value .place-value .ensures))),
+    )
+
+returns-2 : tie.Need-returns-2 Inv-loop μ-loop
+returns-2 c =
+    let at = c .before in
+    let a = c .before .before .before .before .before .args in
+    sym (at .loop .inv .1 ∙ member-over (a .v) (place-over (a .p .now) (at .loop .k) (omega arith)))
+
+pub held-above-spec : {M : Type 1} → statement M
+held-above-spec =
+    tie.close
+    (tie.spec
+    Inv-loop
+    μ-loop
+    place-count-requires
+    add-k
+    loop-holds
+    place-value-requires
+    returns
+    add-k-2
+    loop-less
+    loop-again
+    returns-2)

@@ -1,0 +1,2 @@
+pub mod StandingPointers
+pub mod Added

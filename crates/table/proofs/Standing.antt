@@ -1,0 +1,25 @@
+-- A table stands by its entries once header and count are right, and not at all where they are not. Assumes nothing.
+use mathlib.Core.Path.{_≡_, sym, _∙_}
+use mathlib.Core.Bool.{Bool, true, false, not, _&&_}
+use mathlib.Core.List.{List}
+use Prim.Native.Nat.{ℕ, _≤_}
+use borrow.Author.Tests.{not-true, not-false}
+use Rattle.rules.specs.Numbers.{Setting}
+use Rattle.rules.specs.Table.{header-right, count-right, entry-count, entries, entries-stand, table-stands}
+use Rattle.rules.proofs.Tests.{and-true}
+use Rattle.rules.proofs.Standing.{at-most-127}
+use Rattle.walks.specs.Entries.{most-entries}
+
+-- h and k are what the code's tests of header and count gave
+module _ (t : List ℕ) {h k : Bool} (header : h ≡ header-right t) (count : k ≡ count-right t) where
+  module _ (s : Setting) (len : ℕ) where
+    pub not-standing : not (h && k) ≡ true → table-stands s len t ≡ false
+    unfolding table-stands
+    not-standing f = rw (← header, ← count, not-true (h && k) f)
+
+    pub standing-by-entries : not (h && k) ≡ false → table-stands s len t ≡ entries-stand s len (entries t)
+    unfolding table-stands
+    standing-by-entries p = rw (← header, ← count, not-false (h && k) p)
+
+  pub count-at-most : not (h && k) ≡ false → entry-count t ≤ most-entries
+  count-at-most p = at-most-127 t (sym count ∙ and-true h k (not-false (h && k) p) .1)

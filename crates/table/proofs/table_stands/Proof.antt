@@ -1,0 +1,65 @@
+-- `table::table_stands` meets its contract: header and count decide where they are wrong, else the entries. Assumes
+-- nothing.
+use mathlib.Core.Path.{sym}
+use native.Mathlib.Omega.{arith}
+use lib.ListN.{length}
+use borrow.Author.Needs.{needs}
+use Rattle.rules.specs.Numbers.{setting}
+use Rattle.rules.specs.Table.{entries}
+use Rattle.table.proofs.Standing.{not-standing, standing-by-entries, count-at-most}
+use Rattle.table.proofs.table_stands.Statement.{statement}
+use Rattle.table.proofs.table_stands.Tie as tie
+
+block-at-requires : tie.Need-block-at-requires
+block-at-requires c κs = search needs
+
+header-is-right-requires : tie.Need-header-is-right-requires
+header-is-right-requires c κs = search needs
+
+count-is-right-requires : tie.Need-count-is-right-requires
+count-is-right-requires c κs = search needs
+
+returns : tie.Need-returns
+returns c =
+    let b = c .before .before .before in
+    let a = b .before .before .args in
+    let s = setting (a .granule) (a .spt0) (a .spt1) in
+    let header = c .before .before .header-is-right .ensures in
+    let count = c .before .count-is-right .ensures in
+    let wrong = not-standing (b .block-at .result .now) header count s (length (a .image .now)) (c .if1 .taken) in
+    rw (← b .block-at .ensures .0) (sym wrong)
+
+entry-count-requires : tie.Need-entry-count-requires
+entry-count-requires c κs = search needs
+
+entries-stand-requires : tie.Need-entries-stand-requires
+entries-stand-requires c κs =
+    let b = c .before .before .before .before in
+    let header = c .before .before .before .header-is-right .ensures in
+    let count = c .before .before .count-is-right .ensures in
+    let most = count-at-most (b .block-at .result .now) header count (c .before .if1 .left) in
+    ((b .block-at .ensures .1, rw (c .entry-count .ensures) most), omega arith)
+
+returns-2 : tie.Need-returns-2
+unfolding entries
+returns-2 c =
+    let b = c .before .before .before .before .before in
+    let a = b .before .before .args in
+    let s = setting (a .granule) (a .spt0) (a .spt1) in
+    let header = c .before .before .before .before .header-is-right .ensures in
+    let count = c .before .before .before .count-is-right .ensures in
+    let right = standing-by-entries (b .block-at .result .now) header count in
+    let stands = right s (length (a .image .now)) (c .before .before .if1 .left) in
+    rw (← b .block-at .ensures .0, stands, c .entries-stand .ensures, c .before .entry-count .ensures)
+
+pub table-stands-spec : {M : Type 1} → statement M
+table-stands-spec =
+    tie.close
+    (tie.spec
+    block-at-requires
+    header-is-right-requires
+    count-is-right-requires
+    returns
+    entry-count-requires
+    entries-stand-requires
+    returns-2)

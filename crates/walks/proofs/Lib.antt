@@ -1,0 +1,7 @@
+pub mod Joined
+pub mod Fields
+pub mod Loops
+pub mod Rows
+pub mod Entries
+pub mod Find
+pub mod Slots

@@ -1,0 +1,19 @@
+-- An entry of a table by its number, and the test by which code looks for a slot. Assumes nothing.
+use mathlib.Core.Bool.{Bool, _&&_}
+use mathlib.Core.List.{List}
+use Prim.Native.Nat.{ℕ, _+_, _*_}
+use lib.Dec.{eqb}
+use lib.ListN.{drop}
+use Rattle.rules.specs.Table.{Entry, entry, is-slot}
+
+-- the entries that a table has room for
+abbrev pub most-entries : ℕ
+most-entries = 127
+
+-- the entry of a number, counted or not
+unfoldable pub entry-at : List ℕ → ℕ → Entry
+entry-at t i = entry (drop (0x20 + 32 * i) t)
+
+-- an application slot that starts at an address
+unfoldable pub slot-from : ℕ → Entry → Bool
+slot-from a e = eqb (e .start) a && is-slot e
