@@ -1,0 +1,76 @@
+-- The view of a flash, one law for each exit of the code that works it out. Assumes nothing.
+use mathlib.Core.Path.{_≡_}
+use mathlib.Core.Bool.{true, false}
+use mathlib.Core.List.{List}
+use Prim.Native.Nat.{ℕ}
+use lib.ListN.{length}
+use Rattle.rules.specs.Bytes.{block}
+use Rattle.rules.specs.Answers.{refused, given, unless, _>>=_}
+use Rattle.rules.specs.Numbers.{Setting, length-right, granule-right, addresses-right}
+use Rattle.rules.specs.Table.{cpb0-of, cpb1-of, table-stands}
+use Rattle.rules.specs.Pointers.{pointers-stand}
+use Rattle.rules.specs.Copies.{copy-read, table-read, pointers-read, view-through, view}
+use Rattle.rules.specs.declared.View.{View}
+
+-- where things are by the table at an address, with a pointer copy
+abbrev pub view-at : Setting → List ℕ → ℕ → ℕ → View
+view-at s img at p =
+    record {
+      spt0 = s .spt0;
+      spt1 = s .spt1;
+      cpb0 = cpb0-of (block img at);
+      cpb1 = cpb1-of (block img at);
+      table = at;
+      pointers = p;
+    }
+
+-- ---- by the table at an address
+
+module _ (s : Setting) (img : List ℕ) (at : ℕ) where
+  pub through-cpb0 : pointers-stand (block img (cpb0-of (block img at))) ≡ true
+      → view-through s img at ≡ given (view-at s img at (cpb0-of (block img at)))
+  unfolding view-through pointers-read copy-read _>>=_
+  through-cpb0 h = rw h
+
+  module _ (no0 : pointers-stand (block img (cpb0-of (block img at))) ≡ false) where
+    pub through-cpb1 : pointers-stand (block img (cpb1-of (block img at))) ≡ true
+        → view-through s img at ≡ given (view-at s img at (cpb1-of (block img at)))
+    unfolding view-through pointers-read copy-read _>>=_ unless
+    through-cpb1 h = rw (no0, h)
+
+    pub refused-5 : pointers-stand (block img (cpb1-of (block img at))) ≡ false → view-through s img at ≡ refused 5
+    unfolding view-through pointers-read copy-read _>>=_ unless
+    refused-5 h = rw (no0, h)
+
+-- ---- the refusals in their order
+
+module _ (s : Setting) (img : List ℕ) where
+  pub refused-1 : length-right (length img) ≡ false → view s img ≡ refused 1
+  unfolding view unless
+  refused-1 h = rw h
+
+  module _ (long : length-right (length img) ≡ true) where
+    pub refused-2 : granule-right (s .granule) ≡ false → view s img ≡ refused 2
+    unfolding view unless
+    refused-2 h = rw (long, h)
+
+    module _ (grained : granule-right (s .granule) ≡ true) where
+      pub refused-3 : addresses-right s (length img) ≡ false → view s img ≡ refused 3
+      unfolding view unless
+      refused-3 h = rw (long, grained, h)
+
+      module _ (placed : addresses-right s (length img) ≡ true) where
+        pub through-spt0 : table-stands s (length img) (block img (s .spt0)) ≡ true
+            → view s img ≡ view-through s img (s .spt0)
+        unfolding view unless table-read copy-read _>>=_
+        through-spt0 h = rw (long, grained, placed, h)
+
+        module _ (no0 : table-stands s (length img) (block img (s .spt0)) ≡ false) where
+          pub through-spt1 : table-stands s (length img) (block img (s .spt1)) ≡ true
+              → view s img ≡ view-through s img (s .spt1)
+          unfolding view unless table-read copy-read _>>=_
+          through-spt1 h = rw (long, grained, placed, no0, h)
+
+          pub refused-4 : table-stands s (length img) (block img (s .spt1)) ≡ false → view s img ≡ refused 4
+          unfolding view unless table-read copy-read _>>=_
+          refused-4 h = rw (long, grained, placed, no0, h)

@@ -1,0 +1,13 @@
+-- `reading::numbers::length_right` is the test of refusal 1. Assumes nothing.
+use mathlib.Core.Path.{refl}
+use Rattle.rules.specs.Bytes.{multiple}
+use Rattle.rules.specs.Numbers.{length-right}
+use Rattle.reading.proofs.numbers.length_right.Statement.{statement}
+use Rattle.reading.proofs.numbers.length_right.Tie as tie
+
+returns : tie.Need-returns
+unfolding length-right multiple
+returns c = refl
+
+pub length-right-spec : {M : Type 1} → statement M
+length-right-spec = tie.close (tie.spec returns)

@@ -1,0 +1,75 @@
+-- `reading::slot_count` counts the slots of the table read, or refuses as the view does. Assumes nothing.
+use mathlib.Core.Path.{sym}
+use borrow.Author.Needs.{needs}
+use Rattle.rules.specs.Numbers.{setting}
+use Rattle.reading.specs.Answers.{counted}
+use Rattle.reading.proofs.ByView.{no-count, follows, few-entries, count-by-table}
+use Rattle.reading.proofs.slot_count.Statement.{statement}
+use Rattle.reading.proofs.slot_count.Tie as tie
+
+view-requires : tie.Need-view-requires
+view-requires c κs = search needs
+
+enum-known-seen : tie.Need-enum-known-seen
+enum-known-seen c = search needs
+
+enum-known-seen-2 : tie.Need-enum-known-seen-2
+enum-known-seen-2 c = search needs
+
+block-at-requires : tie.Need-block-at-requires
+block-at-requires c κs =
+    let called = c .before .before .before in
+    let a = called .before .before .args in
+    follows (setting (a .granule) (a .spt0) (a .spt1)) (a .image .now) (called .view .ensures) (c .before .seen2 .given .1)
+    .table-inside
+
+entry-count-requires : tie.Need-entry-count-requires
+entry-count-requires c κs = search needs
+
+count-slots-requires : tie.Need-count-slots-requires
+count-slots-requires c κs =
+    let block = c .before in
+    let seen = block .before .before in
+    let called = seen .before .before in
+    let a = called .before .before .args in (
+      block .block-at .ensures .1,
+      few-entries (setting (a .granule) (a .spt0) (a .spt1)) (a .image .now) (called .view .ensures)
+          (seen .seen2 .given .1) (block .block-at .result .now) (c .entry-count .result) (block .block-at .ensures .0)
+          (c .entry-count .ensures),
+    )
+
+returns : tie.Need-returns
+unfolding counted
+returns c =
+    let called = c .before .before .before in
+    let a = called .before .before .args in
+    sym
+    (no-count (setting (a .granule) (a .spt0) (a .spt1)) (a .image .now) (called .view .ensures)
+    (c .before .seen .given .1))
+
+returns-2 : tie.Need-returns-2
+unfolding counted
+returns-2 c =
+    let count = c .before in
+    let block = count .before in
+    let seen = block .before .before in
+    let called = seen .before .before in
+    let a = called .before .before .args in
+    rw (c .count-slots .ensures .0)
+    (sym
+    (count-by-table (setting (a .granule) (a .spt0) (a .spt1)) (a .image .now) (called .view .ensures)
+    (seen .seen2 .given .1) (block .block-at .result .now) (count .entry-count .result) (block .block-at .ensures .0)
+    (count .entry-count .ensures)))
+
+pub slot-count-spec : {M : Type 1} → statement M
+slot-count-spec =
+    tie.close
+    (tie.spec
+    view-requires
+    enum-known-seen
+    enum-known-seen-2
+    block-at-requires
+    entry-count-requires
+    count-slots-requires
+    returns
+    returns-2)

@@ -1,0 +1,54 @@
+-- `reading::table_read` is the part of the image that the view names, or an empty part. Assumes nothing.
+use mathlib.Core.Path.{sym, _∙_}
+use borrow.Author.Needs.{needs}
+use Rattle.rules.specs.Numbers.{setting}
+use Rattle.reading.proofs.ByView.{no-table, follows, table-by-view}
+use Rattle.reading.proofs.table_read.Statement.{statement}
+use Rattle.reading.proofs.table_read.Tie as tie
+
+view-requires : tie.Need-view-requires
+view-requires c κs = search needs
+
+enum-told : tie.Need-enum-told
+enum-told c = search needs
+
+slice-aggregate-result : tie.Need-slice-aggregate-result
+slice-aggregate-result c = search needs
+
+enum-known-seen : tie.Need-enum-known-seen
+enum-known-seen c = search needs
+
+block-at-requires : tie.Need-block-at-requires
+block-at-requires c κs =
+    let called = c .before .before .before in
+    let a = called .before .before .args in
+    follows (setting (a .granule) (a .spt0) (a .spt1)) (a .image .now) (called .view .ensures) (c .before .seen .given .1)
+    .table-inside
+
+returns : tie.Need-returns
+returns c =
+    let called = c .before .before .before in
+    let a = called .before .before .args in
+    sym
+    (no-table (setting (a .granule) (a .spt0) (a .spt1)) (a .image .now) (called .view .ensures)
+    (c .before .enum-told .given .1))
+
+returns-2 : tie.Need-returns-2
+returns-2 c =
+    let seen = c .before .before in
+    let called = seen .before .before in
+    let a = called .before .before .args in
+    c .block-at .ensures .0
+    ∙ sym (table-by-view (setting (a .granule) (a .spt0) (a .spt1)) (a .image .now) (called .view .ensures) (seen .seen .given .1))
+
+pub table-read-spec : {M : Type 1} → statement M
+table-read-spec =
+    tie.close
+    (tie.spec
+    view-requires
+    enum-told
+    slice-aggregate-result
+    enum-known-seen
+    block-at-requires
+    returns
+    returns-2)

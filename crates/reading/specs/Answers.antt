@@ -1,0 +1,39 @@
+-- What the answers of the code say: document 01's number and values for each case. Assumes nothing.
+use mathlib.Core.List.{List}
+use Prim.Native.Nat.{ℕ}
+use lib.ListN.{length}
+use Rattle.rules.specs.Answers.{Answer, refused, given, _>>=_}
+use Rattle.rules.specs.declared.View.{View}
+use Rattle.rules.specs.declared.Facts.{Facts}
+use Rattle.reading.specs.declared.Viewed.{Viewed}
+use Rattle.reading.specs.declared.Viewed.the-variants.{At, Refused as NotViewed}
+use Rattle.reading.specs.declared.Listed.{Listed}
+use Rattle.reading.specs.declared.Listed.the-variants.{Count, Refused as NotListed}
+use Rattle.reading.specs.declared.Counted.{Counted}
+use Rattle.reading.specs.declared.Counted.the-variants.{Slots, Refused as NotCounted}
+use Rattle.reading.specs.declared.Known.{Known}
+use Rattle.reading.specs.declared.Known.the-variants.{Is, Refused as NotKnown}
+
+-- where things are, or refused 1 to 5
+unfoldable pub viewed : Viewed → Answer View
+viewed (At v) = given v
+viewed (NotViewed n) = refused n
+
+-- how many slot numbers were written, or refused 1 to 5 or 13
+unfoldable pub listed : Listed → Answer ℕ
+listed (Count n) = given n
+listed (NotListed n) = refused n
+
+-- the count of an order that is given
+unfoldable pub count-of : Answer (List ℕ) → Answer ℕ
+count-of a = a >>= λ o. given (length o)
+
+-- how many application slots there are, or refused 1 to 5
+unfoldable pub counted : Counted → Answer ℕ
+counted (Slots n) = given n
+counted (NotCounted n) = refused n
+
+-- what is known of a slot, or refused 1 to 5 or 7
+unfoldable pub known : Known → Answer Facts
+known (Is f) = given f
+known (NotKnown n) = refused n

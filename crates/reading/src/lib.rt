@@ -1,0 +1,141 @@
+// Reading a flash: where things are, the table read, the boot order, the slots. Nothing here stores into an image.
+mod numbers; // refusals 1 to 3
+mod copies; // refusals 4 and 5
+mod order; // the boot order by two blocks, and refusal 13
+mod facts; // one slot by a table, and refusal 7
+
+use rules::Facts;
+use rules::SlotNo;
+use rules::View;
+ghost use mathlib.Core.Path.{_≡_};
+ghost use lib.ListN.{length};
+ghost use Rattle.rules.specs.Numbers.{setting};
+ghost use Rattle.rules.specs.Copies.{view};
+ghost use Rattle.rules.specs.Readers.{order-list, row-after, table-part, slot-count, slot-facts, slot-name};
+ghost use Rattle.reading.specs.Answers.{viewed, listed, count-of, counted, known};
+
+// Where things are, or a refusal.
+pub enum Viewed {
+    At(View),
+    Refused(u8),
+}
+
+// How many slot numbers the order list wrote, or a refusal.
+pub enum Listed {
+    Count(usize),
+    Refused(u8),
+}
+
+// How many application slots there are, or a refusal.
+pub enum Counted {
+    Slots(usize),
+    Refused(u8),
+}
+
+// What is known of a slot, or a refusal.
+pub enum Known {
+    Is(Facts),
+    Refused(u8),
+}
+
+// Refusals 1 to 5, or where things are and which copies are read.
+pub fn view(image: &[u8], granule: usize, spt0: usize, spt1: usize) -> Viewed
+    ensures { λ r. ⌜ viewed r ≡ view (setting granule spt0 spt1) (now (image .entry)) ⌝ }
+{
+    let len = image.len();
+    if !numbers::length_right(len) {
+        return Viewed::Refused(1);
+    }
+    if !numbers::granule_right(granule) {
+        return Viewed::Refused(2);
+    }
+    if !numbers::addresses_right(granule, len, spt0, spt1) {
+        return Viewed::Refused(3);
+    }
+    if table::table_stands(image, spt0, granule, spt0, spt1) {
+        return copies::view_through(image, spt0, spt1, spt0);
+    }
+    if table::table_stands(image, spt1, granule, spt0, spt1) {
+        return copies::view_through(image, spt0, spt1, spt1);
+    }
+    Viewed::Refused(4)
+}
+
+// The 4,096 bytes of the table copy read, as a part of the image; an empty part when refused.
+pub fn table_read(image: &[u8], granule: usize, spt0: usize, spt1: usize) -> &[u8]
+    ensures { λ r. ⌜ now r ≡ table-part (setting granule spt0 spt1) (now (image .entry)) ⌝ }
+{
+    let seen = view(image, granule, spt0, spt1);
+    match seen {
+        Viewed::Refused(_) => &image[..0],
+        Viewed::At(v) => {
+            let read = v.table;
+            fields::block_at(image, read)
+        }
+    }
+}
+
+// The boot order's slot numbers into the front of the row, or a refusal, which leaves the row as it was.
+pub fn order_list(image: &[u8], granule: usize, spt0: usize, spt1: usize, row: &mut [u32]) -> Listed
+    ensures answer { λ r. ⌜ listed r
+        ≡ count-of (order-list (setting granule spt0 spt1) (now (image .entry)) (length (now (row .entry)))) ⌝ }
+    ensures written { λ r. ⌜ now (row .exit) ≡ row-after
+        (order-list (setting granule spt0 spt1) (now (image .entry)) (length (now (row .entry)))) (now (row .entry)) ⌝ }
+{
+    let seen = view(image, granule, spt0, spt1);
+    match seen {
+        Viewed::Refused(no) => Listed::Refused(no),
+        Viewed::At(v) => {
+            let table_at = v.table;
+            let pointers_at = v.pointers;
+            let t = fields::block_at(image, table_at);
+            let p = fields::block_at(image, pointers_at);
+            order::list_order(t, entries::entry_count(t), p, row)
+        }
+    }
+}
+
+// How many application slots the table read has.
+pub fn slot_count(image: &[u8], granule: usize, spt0: usize, spt1: usize) -> Counted
+    ensures { λ r. ⌜ counted r ≡ slot-count (setting granule spt0 spt1) (now (image .entry)) ⌝ }
+{
+    let seen = view(image, granule, spt0, spt1);
+    match seen {
+        Viewed::Refused(no) => Counted::Refused(no),
+        Viewed::At(v) => {
+            let at = v.table;
+            let t = fields::block_at(image, at);
+            Counted::Slots(slots::count_slots(t, entries::entry_count(t)))
+        }
+    }
+}
+
+// The entry number, start, length and flags of a slot.
+pub fn slot_facts(image: &[u8], granule: usize, spt0: usize, spt1: usize, slot: SlotNo) -> Known
+    ensures { λ r. ⌜ known r ≡ slot-facts (setting granule spt0 spt1) (now (image .entry)) (slot .0) ⌝ }
+{
+    let seen = view(image, granule, spt0, spt1);
+    match seen {
+        Viewed::Refused(no) => Known::Refused(no),
+        Viewed::At(v) => {
+            let at = v.table;
+            let t = fields::block_at(image, at);
+            facts::facts_in(t, entries::entry_count(t), slot)
+        }
+    }
+}
+
+// The name of a slot up to its zero, as a part of the image; an empty part when refused.
+pub fn slot_name(image: &[u8], granule: usize, spt0: usize, spt1: usize, slot: SlotNo) -> &[u8]
+    ensures { λ r. ⌜ now r ≡ slot-name (setting granule spt0 spt1) (now (image .entry)) (slot .0) ⌝ }
+{
+    let seen = view(image, granule, spt0, spt1);
+    match seen {
+        Viewed::Refused(_) => &image[..0],
+        Viewed::At(v) => {
+            let at = v.table;
+            let t = fields::block_at(image, at);
+            facts::name_in(t, entries::entry_count(t), slot)
+        }
+    }
+}

@@ -1,0 +1,36 @@
+// Refusals 1 to 3: the image's length, the granule, and the addresses that the caller gives.
+ghost use mathlib.Core.Path.{_≡_};
+ghost use Prim.Native.Nat.{_<_};
+ghost use Rattle.rules.specs.Numbers.{setting, length-right, granule-right, address-right, addresses-right};
+
+// The unit and the least length of an image, and the greatest.
+const BLOCK_SIZE: usize = fields::BLOCK_SIZE;
+
+const LENGTH_MAX: usize = 268435456;
+
+pub fn length_right(len: usize) -> bool
+    ensures { λ r. ⌜ r ≡ length-right len ⌝ }
+{
+    (len % BLOCK_SIZE == 0) & (BLOCK_SIZE <= len) & (len <= LENGTH_MAX)
+}
+
+pub fn granule_right(granule: usize) -> bool
+    ensures { λ r. ⌜ r ≡ granule-right granule ⌝ }
+{
+    (granule == 4096) | (granule == 32768) | (granule == 65536)
+}
+
+// A multiple of the granule from which a granule does not pass the image's end.
+fn address_right(granule: usize, len: usize, at: usize) -> bool
+    requires { ⌜ 0 < granule ⌝ }
+    ensures { λ r. ⌜ r ≡ address-right granule len at ⌝ }
+{
+    (at % granule == 0) & table::ends_by(at as u64, granule as u64, len as u64)
+}
+
+pub fn addresses_right(granule: usize, len: usize, spt0: usize, spt1: usize) -> bool
+    requires { ⌜ 0 < granule ⌝ }
+    ensures { λ r. ⌜ r ≡ addresses-right (setting granule spt0 spt1) len ⌝ }
+{
+    (spt0 != spt1) & address_right(granule, len, spt0) & address_right(granule, len, spt1)
+}
