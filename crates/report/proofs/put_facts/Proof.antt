@@ -1,0 +1,78 @@
+-- `put_facts` puts start and length of a slot, by what is known of it. Assumes nothing.
+use Rattle.reading.specs.Answers.{known}
+use Rattle.text.proofs.Puts.{then}
+use Rattle.report.specs.Listing.{facts-text, told, listing-setting}
+use borrow.Author.Needs.{needs}
+use Rattle.report.proofs.put_facts.Statement.{statement}
+use Rattle.report.proofs.put_facts.Tie as tie
+
+slot-facts-requires : tie.Need-slot-facts-requires
+slot-facts-requires c κs = search needs
+
+enum-told : tie.Need-enum-told
+enum-told c = search needs
+
+put-byte-requires : tie.Need-put-byte-requires
+put-byte-requires c κs = search needs
+
+enum-known-known : tie.Need-enum-known-known
+enum-known-known c = search needs
+
+put-byte-requires-2 : tie.Need-put-byte-requires-2
+put-byte-requires-2 c κs = search needs
+
+put-decimal-requires : tie.Need-put-decimal-requires
+put-decimal-requires c κs = search needs
+
+put-byte-requires-3 : tie.Need-put-byte-requires-3
+put-byte-requires-3 c κs = search needs
+
+put-decimal-requires-2 : tie.Need-put-decimal-requires-2
+put-decimal-requires-2 c κs = search needs
+
+put-byte-requires-4 : tie.Need-put-byte-requires-4
+put-byte-requires-4 c κs = search needs
+
+same-length : tie.Need-same-length
+same-length c = search needs
+
+returns : tie.Need-returns
+unfolding facts-text told listing-setting known
+returns c = rw (← c .before .before .before .before .before .before .slot-facts .ensures, c .before .before .before .before .enum-told .given .1) (c .before .before .put-byte .ensures)
+
+same-length-2 : tie.Need-same-length-2
+same-length-2 c = search needs
+
+returns-2 : tie.Need-returns-2
+unfolding facts-text told listing-setting known
+returns-2 c =
+    let newline = c .before .before in
+    let size = newline .before .before .before .before in
+    let space = size .before .before .before .before in
+    let start = space .before .before .before .before in
+    let first-space = start .before .before .before .before in
+    let answer = first-space .before .before .before in
+    rw (← answer .before .before .slot-facts .ensures, answer .known .given .1)
+    (then (first-space .put-byte2 .ensures)
+    (then (start .put-decimal .ensures)
+    (then (space .put-byte3 .ensures)
+    (then (size .put-decimal2 .ensures)
+    (newline .put-byte4 .ensures)))))
+
+pub put-facts-spec : {M : Type 1} → statement M
+put-facts-spec =
+    tie.close
+    (tie.spec
+    slot-facts-requires
+    enum-told
+    put-byte-requires
+    enum-known-known
+    put-byte-requires-2
+    put-decimal-requires
+    put-byte-requires-3
+    put-decimal-requires-2
+    put-byte-requires-4
+    same-length
+    returns
+    same-length-2
+    returns-2)

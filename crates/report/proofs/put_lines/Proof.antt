@@ -1,0 +1,72 @@
+-- `put_lines` puts a line for each slot: after i turns the first i lines are put. Assumes nothing.
+use mathlib.Core.Path.{_≡_}
+use Prim.Native.Nat.{_≤_, _-_}
+use lib.ListN.{take}
+use native.Mathlib.Omega.{arith}
+use Rattle.text.specs.Put.{Put}
+use Rattle.text.proofs.Puts.{put-nothing, keeps-length}
+use Rattle.report.specs.Listing.{slot-lines}
+use Rattle.report.proofs.Lines.{one-more-line}
+use borrow.Author.Needs.{needs}
+use Rattle.report.proofs.put_lines.Statement.{statement}
+use Rattle.report.proofs.put_lines.Tie as tie
+
+abbrev Inv-loop : tie.InvT-loop
+Inv-loop image row count out₀ at end₀ i₀ out end i = Put out₀ end₀ (slot-lines image 1 (take i row)) out end × (i ≤ count)
+
+abbrev μ-loop : tie.MeasureT-loop
+μ-loop image row count out₀ at end₀ i₀ out end i = count - i
+
+loop-holds : tie.Need-loop-holds Inv-loop μ-loop
+unfolding slot-lines
+loop-holds c = (put-nothing _ _, omega arith)
+
+add-put-line : tie.Need-add-put-line Inv-loop μ-loop
+add-put-line c = search needs
+
+mul-t10 : tie.Need-mul-t10 Inv-loop μ-loop
+mul-t10 c = search needs
+
+shared-slice-read-t12 : tie.Need-shared-slice-read-t12 Inv-loop μ-loop
+shared-slice-read-t12 c = search needs
+
+put-line-requires : tie.Need-put-line-requires Inv-loop μ-loop
+put-line-requires c κs = search needs
+
+add-i : tie.Need-add-i Inv-loop μ-loop
+add-i c = search needs
+
+loop-less : tie.Need-loop-less Inv-loop μ-loop
+loop-less c = search needs
+
+loop-again : tie.Need-loop-again Inv-loop μ-loop
+loop-again c = (
+  one-more-line (c .before .before .before .before .before .before .before .before .before .before .args .image .now) (c .before .before .before .before .before .before .before .before .before .before .args .row .now) (c .before .before .before .before .before .before .loop .i) (omega arith)
+      (c .before .before .before .before .before .before .loop .inv .0) (c .before .before .put-line .ensures),
+  omega arith,
+)
+
+same-length : tie.Need-same-length Inv-loop μ-loop
+same-length c = keeps-length (c .before .loop .inv .0)
+
+returns : tie.Need-returns Inv-loop μ-loop
+returns c =
+    let all : c .before .loop .i ≡ c .before .before .before .before .before .args .count = omega arith in
+    rw all at (c .before .loop .inv .0)
+
+pub put-lines-spec : {M : Type 1} → statement M
+put-lines-spec =
+    tie.close
+    (tie.spec
+    Inv-loop
+    μ-loop
+    loop-holds
+    add-put-line
+    mul-t10
+    shared-slice-read-t12
+    put-line-requires
+    add-i
+    loop-less
+    loop-again
+    same-length
+    returns)

@@ -1,0 +1,91 @@
+// The listing of an image's boot order, as document 01 gives it, put into a lent buffer.
+use reading::Known;
+use reading::Listed;
+use rules::SlotNo;
+ghost use mathlib.Core.Path.{_≡_};
+ghost use Prim.Native.Nat.{_≤_};
+ghost use lib.ListN.{length, take};
+ghost use Rattle.text.specs.Put.{Put};
+ghost use Rattle.report.specs.Listing.{listing, refusal, slot-lines, slot-line, facts-text};
+
+const GRANULE: usize = 4096;
+
+const SPT0: usize = 0x4000;
+
+const SPT1: usize = 0x5000;
+
+// More bytes than this are refused.
+const IMAGE_LIMIT: usize = 65536;
+
+// Puts the listing at the front of `out`, and answers how many bytes it has.
+pub fn listing_of(image: &[u8], out: &mut [u8]) -> usize
+    ensures told { λ r. ⌜ Put (now (out .entry)) 0 (listing (now (image .entry))) (now (out .exit)) r ⌝ }
+    ensures inside { λ r. ⌜ (r ≤ length (now (out .exit))) × (r ≡ length (take r (now (out .exit)))) ⌝ }
+{
+    if IMAGE_LIMIT < image.len() {
+        return put_refusal(out, 1);
+    }
+    let mut row = [0u32; 508];
+    let listed = reading::order_list(image, GRANULE, SPT0, SPT1, &mut row);
+    match listed {
+        Listed::Refused(number) => put_refusal(out, number),
+        Listed::Count(count) => {
+            let end = text::put_bytes(out, 0, b"order slot name start length\n");
+            put_lines(image, &row, count, out, end)
+        }
+    }
+}
+
+fn put_refusal(out: &mut [u8], number: u8) -> usize
+    ensures { λ r. ⌜ Put (now (out .entry)) 0 (refusal number) (now (out .exit)) r ⌝ }
+{
+    let mut end = text::put_bytes(out, 0, b"refused ");
+    end = text::put_decimal(out, end, number as u64);
+    text::put_byte(out, end, b'\n')
+}
+
+// A line for each of the first `count` slots of the row.
+fn put_lines(image: &[u8], row: &[u32], count: usize, out: &mut [u8], at: usize) -> usize
+    requires { ⌜ count ≤ length (now row) ⌝ }
+    ensures { λ r. ⌜ Put (now (out .entry)) at (slot-lines (now (image .entry)) 1 (take count (now (row .entry))))
+        (now (out .exit)) r ⌝ }
+{
+    let mut end = at;
+    let mut i = 0;
+    while i < count {
+        end = put_line(image, i + 1, SlotNo(row[i]), out, end);
+        i += 1;
+    }
+    end
+}
+
+fn put_line(image: &[u8], rank: usize, slot: SlotNo, out: &mut [u8], at: usize) -> usize
+    ensures { λ r. ⌜ Put (now (out .entry)) at (slot-line (now (image .entry)) rank (slot .0)) (now (out .exit)) r ⌝ }
+{
+    let mut end = text::put_decimal(out, at, rank as u64);
+    end = text::put_byte(out, end, b' ');
+    end = text::put_decimal(out, end, slot.0 as u64);
+    end = text::put_byte(out, end, b' ');
+    end = text::put_shown(
+        out,
+        end,
+        reading::slot_name(image, GRANULE, SPT0, SPT1, slot),
+    );
+    put_facts(image, slot, out, end)
+}
+
+fn put_facts(image: &[u8], slot: SlotNo, out: &mut [u8], at: usize) -> usize
+    ensures { λ r. ⌜ Put (now (out .entry)) at (facts-text (now (image .entry)) (slot .0)) (now (out .exit)) r ⌝ }
+{
+    let known = reading::slot_facts(image, GRANULE, SPT0, SPT1, slot);
+    match known {
+        Known::Refused(_) => text::put_byte(out, at, b'\n'),
+        Known::Is(facts) => {
+            let mut end = text::put_byte(out, at, b' ');
+            end = text::put_decimal(out, end, facts.start);
+            end = text::put_byte(out, end, b' ');
+            end = text::put_decimal(out, end, facts.size);
+            text::put_byte(out, end, b'\n')
+        }
+    }
+}

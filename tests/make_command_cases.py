@@ -1,0 +1,250 @@
+"""Makes the images of crates/quarry_cases and crates/power_cuts, and what these programs must print.
+
+    python3 tests/make_command_cases.py
+
+What is printed follows from the reference: for a cut, what the flash then reads as; after every cut a repair must
+keep the reading and make the pairs agree, and the further command must leave what the book says.
+"""
+
+import pathlib
+
+import reference
+from reference import FIXED, LISTING, QUARRY_SLOTS, Refused, Setting, make_image, make_pointers, make_table, quarry
+
+CRATES = pathlib.Path(__file__).parent.parent / "crates"
+NEW_NAME = b"SOLVER_2027_JUL"
+WIDE = Setting(65536, 0x20000, 0x30000)
+CPB0, CPB1 = 0x6000, 0x7000
+
+
+# ---- images
+
+
+def moved(held):
+    """Case 9: P1 moved to 0x11000 and P2 to 0x10000."""
+    slots = [(b"P1", 0x11000, 0x1000, 0), (b"P2", 0x10000, 0x1000, 0), QUARRY_SLOTS[2]]
+    return quarry(held, FIXED + slots, 73728)
+
+
+def wide():
+    """The six entries and three slots on granules of 65,536 bytes."""
+    names = [row[0] for row in FIXED]
+    rows = [(name, 0x10000 * k, 0x10000, 1) for k, name in enumerate(names)]
+    rows += [(name, 0x60000 + 0x1000 * k, 0x1000, 0) for k, (name, *rest) in enumerate(QUARRY_SLOTS)]
+    table, pointers = make_table(rows), make_pointers((0x60000, 0x61000))
+    return make_image(0x70000, (table, table), (pointers, pointers), (0x20000, 0x30000), (0x40000, 0x50000))
+
+
+def with_entries(count):
+    """Case 10: 118 more slots of 0x1000 from 0xB000, and this number in the header."""
+    more = [(b"Q%d" % k, 0xB000 + 0x1000 * k, 0x1000, 0) for k in range(118)]
+    table, pointers = make_table(FIXED + QUARRY_SLOTS + more, count), make_pointers((0x8000, 0x9000))
+    return make_image(0xB000 + 118 * 0x1000, (table, table), (pointers, pointers))
+
+
+def damaged(at):
+    """The quarry image with the last byte of the blocks at these addresses turned, so that their pairs disagree."""
+    image = bytearray(quarry())
+    for start, k in at:
+        image[start + k] ^= 1
+    return bytes(image)
+
+
+IMAGES = {
+    "quarry": quarry(),
+    "highest_506": quarry({0: 0x8000, 1: 0x9000, 506: 0x9000}),
+    "highest_507": quarry({0: 0x8000, 1: 0x9000, 507: 0x9000}),
+    "moved": moved((0x11000, 0x10000)),
+    "moved_three": moved((0x10000, 0xA000, 0x11000)),
+    "first_copies_damaged": damaged([(0x4000, 0), (CPB0, 3)]),
+    "second_copies_damaged": damaged([(0x5000, 4095), (CPB1, 4095)]),
+    "wide": wide(),
+    "entries_127": with_entries(127),
+    "entries_128": with_entries(128),
+    "no_bytes": b"",
+}
+
+
+# ---- the cases of document 01
+
+
+def title(command):
+    return command[0] if command[0] == "repair" else f"{command[0]} {command[1]}"
+
+
+class Run:
+    """An image under commands, and the lines printed on the way."""
+
+    def __init__(self, heading, name):
+        self.image = IMAGES[name]
+        self.lines = [heading]
+
+    def order(self):
+        try:
+            order = reference.reading(self.image, LISTING).order
+            self.lines.append(" ".join(["order"] + [str(slot) for slot in order]))
+        except Refused as refusal:
+            self.lines.append(f"refused {refusal.number}")
+
+    def finish(self, *command, shown=None):
+        try:
+            steps = reference.start(self.image, LISTING, command)
+            self.image = reference.apply(self.image, steps, LISTING.granule)
+            done = f"{len(steps)} steps"
+        except Refused as refusal:
+            done = f"refused {refusal.number}"
+        self.lines.append(f"{shown or title(command)}: {done}")
+
+    def rename(self, name):
+        self.finish("rename", 0, name, shown=f"rename 0 {name.decode()}")
+
+    def cut(self, command, done, wiped):
+        steps = reference.start(self.image, LISTING, command)
+        self.image = reference.cut(self.image, steps, LISTING.granule, done, wiped)
+        self.lines.append(f"{title(command)}: cut after {done} steps, {wiped} bytes into the next")
+
+    def place(self, k):
+        for name, at in (("CPB0", CPB0), ("CPB1", CPB1)):
+            value = reference.number(reference.places(reference.block(self.image, at))[k])
+            self.lines.append(f"{name} place {k}: {value:016x}")
+
+
+def cases():
+    run = Run("cases 1 and 3", "quarry")
+    run.order()
+    run.finish("enable", 1)
+    yield run
+    for heading, name, place in (
+        ("case 2", "quarry", 2),
+        ("case 7, highest used place 506", "highest_506", 507),
+        ("case 7, highest used place 507", "highest_507", 507),
+    ):
+        run = Run(heading, name)
+        run.finish("enable", 2)
+        run.place(place)
+        run.order()
+        yield run
+    run = Run("case 4", "quarry")
+    run.finish("enable", 0)
+    run.place(2)
+    run.order()
+    run.finish("disable", 0)
+    run.order()
+    yield run
+    run = Run("case 5", "quarry")
+    run.finish("disable", 2)
+    run.finish("enable", 3)
+    run.finish("disable", 3)
+    yield run
+    run = Run("case 6", "quarry")
+    run.cut(("enable", 2), 15, 0)
+    run.place(2)
+    run.order()
+    run.finish("repair")
+    run.finish("enable", 2)
+    run.place(3)
+    run.order()
+    yield run
+    for heading, wiped in (("case 8, after 4,097 steps", 0), ("case 8, inside step 4,098", 1)):
+        run = Run(heading, "highest_507")
+        run.cut(("enable", 2), 4097, wiped)
+        run.order()
+        yield run
+    for slot in (0, 1):
+        run = Run(f"case 9, slot {slot}", "moved")
+        run.finish("disable", slot)
+        yield run
+    run = Run("case 10, names", "quarry")
+    run.rename(b"fifteen_bytes_x")
+    run.rename(b"sixteen_bytes_xx")
+    run.order()
+    yield run
+    for heading, name in (
+        ("case 10, 127 entries", "entries_127"),
+        ("case 10, 128 entries", "entries_128"),
+        ("case 10, 0 bytes", "no_bytes"),
+    ):
+        run = Run(heading, name)
+        run.order()
+        yield run
+
+
+def in_order(runs):
+    """By the numbers of the cases, which the headings begin with."""
+    return sorted(runs, key=lambda run: int("".join(c for c in run.lines[0].split(",")[0].split(" and")[0] if c.isdigit())))
+
+
+# ---- power cuts
+
+
+def wiped_choices(granule):
+    return [0, 1, 2, 3, 4, 4095, 4096, granule]
+
+
+def reading_or_none(image, setting):
+    try:
+        return reference.reading(image, setting)
+    except Refused:
+        return None
+
+
+def tried(image, setting, command):
+    """The line of a command that is cut at every step and inside every erase."""
+    try:
+        steps = reference.start(image, setting, command)
+    except Refused as refusal:
+        return f"{title(command)}: refused {refusal.number}"
+    old = reference.reading(image, setting)
+    new = reference.booked(old, command)
+    flash = bytearray(image)
+    counts = {"old": 0, "new": 0, "neither": 0}
+    for step in steps:
+        choices = wiped_choices(setting.granule) if step[0] == "erase" else [0]
+        for wiped in choices:
+            cut = reading_or_none(reference.cut(bytes(flash), [step], setting.granule, 0, wiped), setting)
+            counts["old" if cut == old else "new" if cut == new else "neither"] += 1
+        if step[0] == "program":
+            flash[step[1]] &= step[2]
+        else:
+            flash[step[1] : step[1] + setting.granule] = b"\xff" * setting.granule
+    cuts = sum(counts.values())
+    read = ", ".join(f"{count} {what}" for what, count in counts.items())
+    return f"{title(command)}: {len(steps)} steps, {cuts} cuts: {read}; {cuts} repaired, {cuts} then right"
+
+
+def power_cuts():
+    names = ["quarry", "highest_506", "highest_507", "moved", "moved_three"]
+    names += ["first_copies_damaged", "second_copies_damaged", "wide"]
+    commands = [(word, slot) for slot in range(3) for word in ("enable", "disable")]
+    commands += [("rename", 0, NEW_NAME), ("repair",)]
+    for name in names:
+        setting = WIDE if name == "wide" else LISTING
+        yield f"{name}.img"
+        for command in commands:
+            yield tried(IMAGES[name], setting, command)
+
+
+def write(crate, names, lines):
+    data = CRATES / crate / "data"
+    data.mkdir(parents=True, exist_ok=True)
+    for name in names:
+        (data / f"{name}.img").write_bytes(IMAGES[name])
+    (CRATES / crate / "stdout").write_text("".join(line + "\n" for line in lines))
+
+
+def main():
+    write(
+        "quarry_cases",
+        ["quarry", "highest_506", "highest_507", "moved", "entries_127", "entries_128", "no_bytes"],
+        [line for run in in_order(cases()) for line in run.lines],
+    )
+    write(
+        "power_cuts",
+        ["quarry", "highest_506", "highest_507", "moved", "moved_three"]
+        + ["first_copies_damaged", "second_copies_damaged", "wide"],
+        list(power_cuts()),
+    )
+
+
+if __name__ == "__main__":
+    main()

@@ -1,0 +1,402 @@
+"""Document 01 in plain Python: an independent reference that makes test data and that programs are compared with.
+
+Written from document 01 alone. The gate never runs it.
+
+    python3 tests/reference.py list < IMAGE       what the listing program must print
+    python3 tests/reference.py quarry > IMAGE     the quarry image
+"""
+
+import sys
+from collections import namedtuple
+
+BLOCK = 4096
+TABLE_MAGIC = 0x57713427
+POINTERS_MAGIC = 0x57789609
+LENGTH_LIMIT = 268_435_456
+GRANULES = (4096, 32768, 65536)
+ENTRIES_AT = 0x20
+ENTRY_SIZE = 32
+ENTRY_LIMIT = 127
+PLACES_AT = 0x20
+PLACE_COUNT = 508
+ERASED = b"\xff" * 8
+SIX = (b"BOOT_INFO", b"FACTORY_IMAGE", b"SPT0", b"SPT1", b"CPB0", b"CPB1")
+LISTING_LIMIT = 65536
+
+Setting = namedtuple("Setting", "granule spt0 spt1")
+Entry = namedtuple("Entry", "field start length flags")
+View = namedtuple("View", "table cpb0 cpb1 table_at pointers pointers_at")
+Reading = namedtuple("Reading", "table order")
+
+LISTING = Setting(4096, 0x4000, 0x5000)
+
+
+class Refused(Exception):
+    """A refusal, with its number."""
+
+    def __init__(self, number):
+        super().__init__(number)
+        self.number = number
+
+
+def number(data):
+    return int.from_bytes(data, "little")
+
+
+def block(image, at):
+    return image[at : at + BLOCK]
+
+
+# ---- the sub-partition table
+
+
+def name(entry):
+    """The name up to its zero; all 16 bytes where there is none."""
+    return entry.field.split(b"\0")[0]
+
+
+def entries(table):
+    """The counted entries."""
+    found = []
+    for i in range(number(table[8:12])):
+        row = table[ENTRIES_AT + ENTRY_SIZE * i : ENTRIES_AT + ENTRY_SIZE * (i + 1)]
+        found.append(Entry(row[:16], number(row[16:24]), number(row[24:28]), number(row[28:32])))
+    return found
+
+
+def named(found, wanted):
+    return next(e for e in found if name(e) == wanted)
+
+
+def overlap(a, b):
+    return a.start < b.start + b.length and b.start < a.start + a.length
+
+
+def table_stands(table, setting, image_length):
+    if number(table[0:4]) != TABLE_MAGIC or number(table[4:8]) != 0:
+        return False
+    if not 1 <= number(table[8:12]) <= ENTRY_LIMIT:
+        return False
+    found = entries(table)
+    for e in found:
+        if not (e.field[0] != 0 and 0 in e.field):
+            return False
+        if e.start % 4096 or e.length % 4096 or e.length == 0:
+            return False
+        if e.start + e.length > image_length:
+            return False
+    for i, a in enumerate(found):
+        for b in found[i + 1 :]:
+            if name(a) == name(b) or overlap(a, b):
+                return False
+    if not all(any(name(e) == wanted for e in found) for wanted in SIX):
+        return False
+    if named(found, b"BOOT_INFO").start != 0:
+        return False
+    if named(found, b"SPT0").start != setting.spt0 or named(found, b"SPT1").start != setting.spt1:
+        return False
+    for wanted in (b"SPT0", b"SPT1", b"CPB0", b"CPB1"):
+        e = named(found, wanted)
+        if e.start % setting.granule or e.length < setting.granule:
+            return False
+    return True
+
+
+def slots(table):
+    """The application slots, in table order."""
+    return [e for e in entries(table) if e.flags & 3 == 0 and name(e) not in SIX]
+
+
+# ---- the pointer block
+
+
+def pointers_stand(pointers):
+    return (
+        number(pointers[0x00:0x04]) == POINTERS_MAGIC
+        and number(pointers[0x04:0x08]) == 0x18
+        and number(pointers[0x08:0x0C]) == BLOCK
+        and number(pointers[0x10:0x14]) == PLACES_AT
+        and number(pointers[0x14:0x18]) == PLACE_COUNT
+    )
+
+
+def places(pointers):
+    return [pointers[PLACES_AT + 8 * k : PLACES_AT + 8 * k + 8] for k in range(PLACE_COUNT)]
+
+
+def boot_order(table, pointers):
+    starts = [e.start for e in slots(table)]
+    order = []
+    for place in reversed(places(pointers)):
+        if place != ERASED and number(place) in starts:
+            slot = starts.index(number(place))
+            if slot not in order:
+                order.append(slot)
+    return order
+
+
+# ---- which copy is read
+
+
+def view(image, setting):
+    """What is read of an image: refusals 1 to 5."""
+    if len(image) % 4096 or not 4096 <= len(image) <= LENGTH_LIMIT:
+        raise Refused(1)
+    if setting.granule not in GRANULES:
+        raise Refused(2)
+    if setting.spt0 == setting.spt1:
+        raise Refused(3)
+    for at in (setting.spt0, setting.spt1):
+        if at % setting.granule or at + setting.granule > len(image):
+            raise Refused(3)
+    for table_at in (setting.spt0, setting.spt1):
+        table = block(image, table_at)
+        if table_stands(table, setting, len(image)):
+            break
+    else:
+        raise Refused(4)
+    cpb0 = named(entries(table), b"CPB0").start
+    cpb1 = named(entries(table), b"CPB1").start
+    for pointers_at in (cpb0, cpb1):
+        if pointers_stand(block(image, pointers_at)):
+            return View(table, cpb0, cpb1, table_at, block(image, pointers_at), pointers_at)
+    raise Refused(5)
+
+
+def reading(image, setting):
+    v = view(image, setting)
+    return Reading(v.table, boot_order(v.table, v.pointers))
+
+
+def order_list(image, setting, room):
+    order = reading(image, setting).order
+    if len(order) > room:
+        raise Refused(13)
+    return order
+
+
+def standing_dump(first, second):
+    for dump in (first, second):
+        if len(dump) == BLOCK and pointers_stand(dump):
+            return dump
+    return b""
+
+
+# ---- the listing program
+
+
+def shown(text):
+    return "".join(chr(b) if 0x21 <= b <= 0x7E else "?" for b in text)
+
+
+def listing(image):
+    """What the listing program prints."""
+    try:
+        if len(image) > LISTING_LIMIT:
+            raise Refused(1)
+        v = view(image, LISTING)
+    except Refused as refusal:
+        return f"refused {refusal.number}\n"
+    lines = ["order slot name start length\n"]
+    found = slots(v.table)
+    for rank, slot in enumerate(boot_order(v.table, v.pointers), 1):
+        e = found[slot]
+        lines.append(f"{rank} {slot} {shown(name(e))} {e.start} {e.length}\n")
+    return "".join(lines)
+
+
+# ---- steps: ("program", address, byte) or ("erase", address)
+
+
+def programs(at, data):
+    return [("program", at + i, b) for i, b in enumerate(data)]
+
+
+def rewrite(at, data):
+    assert len(data) == BLOCK
+    return [("erase", at)] + programs(at + 4, data[4:]) + programs(at, data[:4])
+
+
+def apply(image, steps, granule):
+    """The image after these steps."""
+    after = bytearray(image)
+    for step in steps:
+        if step[0] == "program":
+            after[step[1]] &= step[2]
+        else:
+            after[step[1] : step[1] + granule] = b"\xff" * granule
+    return bytes(after)
+
+
+def cut(image, steps, granule, done, wiped=0):
+    """The image where a job is cut after some steps, with so many bytes of the next one's erase done."""
+    after = apply(image, steps[:done], granule)
+    if done < len(steps) and steps[done][0] == "erase":
+        at = steps[done][1]
+        wiped = min(wiped, granule)
+        after = after[:at] + b"\xff" * wiped + after[at + wiped :]
+    return after
+
+
+# ---- commands: ("enable", slot), ("disable", slot), ("rename", slot, name), ("repair",)
+
+
+def pointer(start):
+    return start.to_bytes(8, "little")
+
+
+def ordered(pointers, starts, order):
+    """The pointer block with another order."""
+    front = pointers[:PLACES_AT] + b"".join(pointer(starts[slot]) for slot in reversed(order))
+    return front + b"\xff" * (BLOCK - len(front))
+
+
+def enable(v, starts, order, slot):
+    if order[:1] == [slot]:
+        return []
+    if places(v.pointers)[-1] == ERASED:
+        free = PLACE_COUNT - 1
+        while free > 0 and places(v.pointers)[free - 1] == ERASED:
+            free -= 1
+        at = PLACES_AT + 8 * free
+        data = pointer(starts[slot])
+        return programs(v.cpb1 + at, data) + programs(v.cpb0 + at, data)
+    data = ordered(v.pointers, starts, [slot] + [s for s in order if s != slot])
+    return rewrite(v.cpb1, data) + rewrite(v.cpb0, data)
+
+
+def disable(v, starts, order, slot):
+    start = starts[slot]
+    others = [s for k, s in enumerate(starts) if k != slot]
+    if any(start >> bits << bits in others for bits in (8, 16, 24)):
+        data = ordered(v.pointers, starts, [s for s in order if s != slot])
+        return rewrite(v.cpb1, data) + rewrite(v.cpb0, data)
+    steps = []
+    for copy in (v.cpb1, v.cpb0):
+        for k, place in enumerate(places(v.pointers)):
+            if place == pointer(start):
+                steps += programs(copy + PLACES_AT + 8 * k, bytes(8))
+    return steps
+
+
+def with_name(table, slot, new):
+    row = entries(table).index(slots(table)[slot])
+    at = ENTRIES_AT + ENTRY_SIZE * row
+    return table[:at] + new.ljust(16, b"\0") + table[at + 16 :]
+
+
+def pair_agrees(image, stands, at0, at1):
+    return stands(block(image, at0)) and stands(block(image, at1)) and block(image, at0) == block(image, at1)
+
+
+def start(image, setting, command):
+    """The listed steps of a command, or its refusal."""
+    v = view(image, setting)
+    stands = lambda table: table_stands(table, setting, len(image))
+    tables_agree = pair_agrees(image, stands, setting.spt0, setting.spt1)
+    pointers_agree = pair_agrees(image, pointers_stand, v.cpb0, v.cpb1)
+    if command[0] == "repair":
+        steps = []
+        if not tables_agree:
+            steps += rewrite(setting.spt0 + setting.spt1 - v.table_at, v.table)
+        if not pointers_agree:
+            steps += rewrite(v.cpb0 + v.cpb1 - v.pointers_at, v.pointers)
+        return steps
+    if not tables_agree or not pointers_agree:
+        raise Refused(6)
+    slot = command[1]
+    if slot >= len(slots(v.table)):
+        raise Refused(7)
+    starts = [e.start for e in slots(v.table)]
+    order = boot_order(v.table, v.pointers)
+    if command[0] == "enable":
+        return enable(v, starts, order, slot)
+    if command[0] == "disable":
+        if slot not in order:
+            raise Refused(8)
+        return disable(v, starts, order, slot)
+    new = command[2]
+    if not 1 <= len(new) <= 15 or 0 in new or new in SIX:
+        raise Refused(9)
+    old = name(slots(v.table)[slot])
+    if new != old and any(name(e) == new for e in entries(v.table)):
+        raise Refused(10)
+    if new == old:
+        return []
+    data = with_name(v.table, slot, new)
+    return rewrite(setting.spt1, data) + rewrite(setting.spt0, data)
+
+
+# ---- the book
+
+
+def booked(read, command):
+    """The reading that the book holds after a command that was finished."""
+    if command[0] == "repair":
+        return read
+    slot = command[1]
+    rest = [s for s in read.order if s != slot]
+    if command[0] == "enable":
+        return Reading(read.table, [slot] + rest)
+    if command[0] == "disable":
+        return Reading(read.table, rest)
+    if name(slots(read.table)[slot]) == command[2]:
+        return read
+    return Reading(with_name(read.table, slot, command[2]), read.order)
+
+
+# ---- the quarry image and images like it
+
+FIXED = [
+    (b"BOOT_INFO", 0x0000, 0x2000, 1),
+    (b"FACTORY_IMAGE", 0x2000, 0x2000, 1),
+    (b"SPT0", 0x4000, 0x1000, 1),
+    (b"SPT1", 0x5000, 0x1000, 1),
+    (b"CPB0", 0x6000, 0x1000, 1),
+    (b"CPB1", 0x7000, 0x1000, 1),
+]
+QUARRY_SLOTS = [(b"P1", 0x8000, 0x1000, 0), (b"P2", 0x9000, 0x1000, 0), (b"P3", 0xA000, 0x1000, 0)]
+
+
+def make_entry(text, at, length, flags):
+    return text.ljust(16, b"\0") + at.to_bytes(8, "little") + length.to_bytes(4, "little") + flags.to_bytes(4, "little")
+
+
+def make_table(rows, count=None, version=0, magic=TABLE_MAGIC):
+    count = len(rows) if count is None else count
+    head = b"".join(field.to_bytes(4, "little") for field in (magic, version, count)) + bytes(20)
+    return (head + b"".join(make_entry(*row) for row in rows)).ljust(BLOCK, b"\0")
+
+
+def make_pointers(held):
+    """A pointer block: `held` gives the values of the lowest places, or of places by number."""
+    held = held if isinstance(held, dict) else dict(enumerate(held))
+    fields = (POINTERS_MAGIC, 0x18, BLOCK, 0, PLACES_AT, PLACE_COUNT, 0, 0)
+    body = [pointer(held[k]) if k in held else ERASED for k in range(PLACE_COUNT)]
+    return b"".join(field.to_bytes(4, "little") for field in fields) + b"".join(body)
+
+
+def make_image(length, tables, pointers, tables_at=(0x4000, 0x5000), pointers_at=(0x6000, 0x7000)):
+    image = bytearray(b"\xff" * length)
+    for at, data in zip(tables_at + pointers_at, tables + pointers):
+        image[at : at + BLOCK] = data
+    return bytes(image)
+
+
+def quarry(held=(0x8000, 0x9000), rows=None, length=65536):
+    table = make_table(FIXED + QUARRY_SLOTS if rows is None else rows)
+    pointers = make_pointers(held)
+    return make_image(length, (table, table), (pointers, pointers))
+
+
+def main(words):
+    if words == ["list"]:
+        sys.stdout.write(listing(sys.stdin.buffer.read()))
+    elif words == ["quarry"]:
+        sys.stdout.buffer.write(quarry())
+    else:
+        sys.exit(__doc__)
+
+
+if __name__ == "__main__":
+    main(sys.argv[1:])
