@@ -1,0 +1,133 @@
+-- Eight bytes into each of some places: these steps from one on. Assumes nothing.
+use mathlib.Core.Path.{_≡_, refl, sym, _∙_}
+use mathlib.Core.Bool.{Bool, true, false, _&&_}
+use mathlib.Core.List.{List, [], _∷_}
+use Prim.Native.Nat.{ℕ, zero, suc, _+_, _-_, _*_, _/_, _%_, _≤_, _<_, min}
+use native.Mathlib.Numerals.{add-one}
+use native.Mathlib.Omega.{arith}
+use lib.Dec.{leb}
+use lib.ListN.{length, getD, take, drop, length-append, length-take, drop-of-length-le}
+use lib.Seq.{drop-cons, drop-nil, take-nil, getD-take}
+use borrow.Author.Tests.{leb-true, leb-false}
+use Rattle.rules.specs.Lists.{all}
+use Rattle.rules.specs.Steps.{steps, programs}
+use Rattle.rules.specs.Commands.{into-place, into-places}
+use Rattle.rules.specs.Cuts.{inside}
+use Rattle.jobs.specs.Jobs.{first-step}
+use Rattle.jobs.specs.Parts.{programs-inside, places-inside}
+use Rattle.jobs.specs.declared.Next.the-variants.{Finished}
+use Rattle.jobs.proofs.Splits.{all-split, steps-split, first-left, first-right}
+use Rattle.jobs.proofs.ProgramSteps.{length-programs, inside-programs}
+
+-- the first places of a row, from one on
+pub place-cons : (count i : ℕ) (ks : List ℕ) → i < min count (length ks)
+    → drop i (take count ks) ≡ getD ks i 0 ∷ drop (i + 1) (take count ks)
+place-cons count i ks h =
+    rw (drop-cons (take count ks) i 0 (simp length-take h), getD-take count ks i 0 (omega arith), add-one)
+
+pub places-over : (count i : ℕ) (ks : List ℕ) → min count (length ks) ≤ i → drop i (take count ks) ≡ []
+places-over count i ks h = drop-of-length-le (take count ks) {i = i} (simp length-take h)
+
+module _ (len a offset from : ℕ) where
+  pub inside-cons : (p : ℕ) (ks ls : List ℕ) (address : ℕ) → address ≡ a + (offset + 8 * p) → ls ≡ p ∷ ks
+      → places-inside len a offset from ls ≡ programs-inside len address 8 from && places-inside len a offset
+      (from - 8) ks
+  unfolding places-inside
+  inside-cons p ks ls address e l = rw (e, l)
+
+  pub inside-none : (ls : List ℕ) → ls ≡ [] → places-inside len a offset from ls ≡ true
+  unfolding places-inside
+  inside-none ls l = rw l
+
+module _ (a offset : ℕ) (v : List ℕ) (eight : length v ≡ 8) where
+  length-place : (p : ℕ) → length (programs (a + (offset + 8 * p)) v) ≡ 8
+  length-place p = length-programs (a + (offset + 8 * p)) v ∙ eight
+
+  pub length-places : (ks : List ℕ) → length (into-places a offset v ks) ≡ 8 * length ks
+  unfolding into-places into-place
+  length-places [] = refl
+  length-places (p ∷ ks) =
+      length-append (programs (a + (offset + 8 * p)) v) (into-places a offset v ks)
+      ∙ omega (arith, length-place p, length-places ks)
+
+  pub inside-places : (g len k : ℕ) (ks : List ℕ)
+      → all (inside g len) (drop k (into-places a offset v ks)) ≡ places-inside len a offset k ks
+  unfolding into-places into-place places-inside all
+  inside-places g len zero [] = refl
+  inside-places g len (suc k) [] = refl
+  inside-places g len k (p ∷ ks) =
+      all-split (inside g len) k (programs (a + (offset + 8 * p)) v) (into-places a offset v ks)
+      ∙ rw (
+        length-place p,
+        inside-programs g len (a + (offset + 8 * p)) v k,
+        eight,
+        inside-places g len (k - 8) ks,
+      )
+
+  -- at most n of the steps from one on: those of one place, then those of the others
+  pub steps-places : (g n k p : ℕ) (ks img : List ℕ)
+      → steps g (take n (drop k (into-places a offset v (p ∷ ks)))) img
+      ≡ steps g (take (n - (8 - k)) (drop (k - 8) (into-places a offset v ks)))
+      (steps g (take n (drop k (programs (a + (offset + 8 * p)) v))) img)
+  unfolding into-places into-place
+  steps-places g n k p ks img =
+      steps-split g n k (programs (a + (offset + 8 * p)) v) (into-places a offset v ks) img ∙ rw (length-place p)
+
+  -- the same, image by image, of a row that begins with that place
+  pub places-step : (g n k m skip p address : ℕ) (ks ls img after : List ℕ)
+      → address ≡ a + (offset + 8 * p)
+      → ls ≡ p ∷ ks
+      → m ≡ n - (8 - k)
+      → skip ≡ k - 8
+      → after ≡ steps g (take n (drop k (programs address v))) img
+      → steps g (take n (drop k (into-places a offset v ls))) img
+      ≡ steps g (take m (drop skip (into-places a offset v ks))) after
+  places-step g n k m skip p address ks ls img after ea el em es ei =
+      rw (em, es, ei, ea, el) (steps-places g n k p ks img)
+
+  pub steps-none : (g n k : ℕ) (ls img : List ℕ) → ls ≡ [] → steps g (take n (drop k
+      (into-places a offset v ls))) img ≡ img
+  unfolding into-places steps
+  steps-none g n k ls img el = rw (el, drop-nil k, take-nil n)
+
+  pub next-place : (k : ℕ) (ks : List ℕ) → k < 8 * length ks
+      → first-step (drop k (into-places a offset v ks))
+      ≡ first-step (drop (k % 8) (programs (a + (offset + 8 * getD ks (k / 8) 0)) v))
+  unfolding into-places into-place
+  next-place k [] h = absurd (omega arith)
+  next-place k (p ∷ ks) h = later (leb 8 k) refl (next-place (k - 8) ks)
+    where
+      later : (t : Bool) → leb 8 k ≡ t
+          → (k - 8 < 8 * length ks
+          → first-step (drop (k - 8) (into-places a offset v ks))
+          ≡ first-step (drop ((k - 8) % 8) (programs (a + (offset + 8 * getD ks ((k - 8) / 8) 0)) v)))
+          → first-step (drop k (into-places a offset v (p ∷ ks)))
+          ≡ first-step (drop (k % 8) (programs (a + (offset + 8 * getD (p ∷ ks) (k / 8) 0)) v))
+      later false t rest =
+          let low = leb-false 8 k t in
+          let q : k / 8 ≡ 0 = omega arith in
+          let r : k % 8 ≡ k = omega arith in
+          rw (q, r) (first-left k (programs (a + (offset + 8 * p)) v) (into-places a offset v ks)
+          (rw (length-place p) (omega arith)))
+      later true t rest =
+          let high = leb-true 8 k t in
+          let q : k / 8 ≡ suc ((k - 8) / 8) = omega arith in
+          let r : k % 8 ≡ (k - 8) % 8 = omega arith in
+          rw (q, r)
+          (first-right k (programs (a + (offset + 8 * p)) v) (into-places a offset v ks) (rw (length-place p)
+          (omega arith))
+          ∙ rw (length-place p) (rest (omega arith)))
+
+  -- the same of the first places of a row
+  pub next-place-taken : (k count : ℕ) (ks : List ℕ) (address : ℕ)
+      → address ≡ a + (offset + 8 * getD ks (k / 8) 0)
+      → k / 8 < min count (length ks)
+      → first-step (drop (k % 8) (programs address v)) ≡ first-step (drop k (into-places a offset v (take count ks)))
+  next-place-taken k count ks address e h =
+      rw (e, ← getD-take count ks (k / 8) 0 (omega arith))
+      (sym (next-place k (take count ks) (simp length-take (omega arith))))
+
+  pub no-next-place : (k : ℕ) (ks : List ℕ) → 8 * length ks ≤ k → first-step (drop k (into-places a offset v ks))
+      ≡ Finished
+  unfolding first-step
+  no-next-place k ks h = rw (drop-of-length-le (into-places a offset v ks) {i = k} (rw (length-places ks) h))

@@ -1,0 +1,46 @@
+-- `part_inside` is the test of a part's steps from one on. Assumes nothing.
+use mathlib.Core.Path.{_∙_}
+use borrow.Author.Needs.{needs}
+use Rattle.jobs.specs.Parts.{part-inside}
+use Rattle.jobs.proofs.parts.part_inside.Statement.{statement}
+use Rattle.jobs.proofs.parts.part_inside.Tie as tie
+
+enum-told : tie.Need-enum-told
+enum-told c = search needs
+
+enum-told-2 : tie.Need-enum-told-2
+enum-told-2 c = search needs
+
+is-inside-requires : tie.Need-is-inside-requires
+is-inside-requires c κs = search needs
+
+enum-told-3 : tie.Need-enum-told-3
+enum-told-3 c = search needs
+
+are-inside-requires : tie.Need-are-inside-requires
+are-inside-requires c κs = search needs
+
+returns : tie.Need-returns
+unfolding part-inside
+returns c = rw (c .enum-told .given .1)
+
+returns-2 : tie.Need-returns-2
+unfolding part-inside
+returns-2 c = c .is-inside .ensures ∙ rw (c .before .enum-told2 .given .1)
+
+returns-3 : tie.Need-returns-3
+unfolding part-inside
+returns-3 c = c .are-inside .ensures ∙ rw (c .before .enum-told3 .given .1)
+
+pub part-inside-spec : {M : Type 1} → statement M
+part-inside-spec =
+    tie.close
+    (tie.spec
+    enum-told
+    enum-told-2
+    is-inside-requires
+    enum-told-3
+    are-inside-requires
+    returns
+    returns-2
+    returns-3)

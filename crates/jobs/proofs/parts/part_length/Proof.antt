@@ -1,0 +1,45 @@
+-- `part_length` is the number of a part's steps. Assumes nothing.
+use borrow.Author.Needs.{needs}
+use Rattle.jobs.specs.Parts.{part-length}
+use Rattle.jobs.proofs.parts.part_length.Statement.{statement}
+use Rattle.jobs.proofs.parts.part_length.Tie as tie
+
+enum-told : tie.Need-enum-told
+enum-told c = search needs
+
+enum-told-2 : tie.Need-enum-told-2
+enum-told-2 c = search needs
+
+enum-told-3 : tie.Need-enum-told-3
+enum-told-3 c = search needs
+
+least-requires : tie.Need-least-requires
+least-requires c κs = search needs
+
+mul-result : tie.Need-mul-result
+mul-result c = search needs
+
+returns : tie.Need-returns
+unfolding part-length
+returns c = rw (c .enum-told .given .1) (search needs)
+
+returns-2 : tie.Need-returns-2
+unfolding part-length
+returns-2 c = rw (c .enum-told2 .given .1) (search needs)
+
+returns-3 : tie.Need-returns-3
+unfolding part-length
+returns-3 c = rw (c .before .enum-told3 .given .1) (search needs)
+
+pub part-length-spec : {M : Type 1} → statement M
+part-length-spec =
+    tie.close
+    (tie.spec
+    enum-told
+    enum-told-2
+    enum-told-3
+    least-requires
+    mul-result
+    returns
+    returns-2
+    returns-3)

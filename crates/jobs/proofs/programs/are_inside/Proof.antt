@@ -1,0 +1,15 @@
+-- `are_inside` is the test of the program steps from one on. Assumes nothing.
+use borrow.Author.Needs.{needs}
+use Rattle.jobs.specs.Parts.{programs-inside}
+use Rattle.jobs.proofs.programs.are_inside.Statement.{statement}
+use Rattle.jobs.proofs.programs.are_inside.Tie as tie
+
+ends-by-requires : tie.Need-ends-by-requires
+ends-by-requires c κs = search needs
+
+returns : tie.Need-returns
+unfolding programs-inside
+returns c = rw (c .ends-by .ensures)
+
+pub are-inside-spec : {M : Type 1} → statement M
+are-inside-spec = tie.close (tie.spec ends-by-requires returns)

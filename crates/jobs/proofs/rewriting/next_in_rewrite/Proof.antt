@@ -1,0 +1,72 @@
+-- `next_in_rewrite` is the first of a rewrite's steps from one on. Assumes nothing.
+use mathlib.Core.Path.{_≡_, sym, _∙_}
+use Prim.Native.Nat.{_-_}
+use native.Mathlib.Omega.{arith}
+use lib.Seq.{take-all}
+use lib.ListN.{length, take, drop, length-drop, length-take}
+use borrow.Author.Needs.{needs}
+use Rattle.rules.specs.Steps.{rewrite}
+use Rattle.jobs.specs.Jobs.{first-step}
+use Rattle.jobs.proofs.RewriteSteps.{next-rest, next-magic}
+use Rattle.jobs.proofs.rewriting.next_in_rewrite.Statement.{statement}
+use Rattle.jobs.proofs.rewriting.next_in_rewrite.Tie as tie
+
+returns : tie.Need-returns
+unfolding first-step rewrite
+returns c = rw (c .if1 .taken)
+
+sub-skip : tie.Need-sub-skip
+sub-skip c = search needs
+
+add-next-program : tie.Need-add-next-program
+add-next-program c = search needs
+
+sub-next-program : tie.Need-sub-next-program
+sub-next-program c = search needs
+
+part-next-program-start : tie.Need-part-next-program-start
+part-next-program-start c = search needs
+
+part-next-program-end : tie.Need-part-next-program-end
+part-next-program-end c = search needs
+
+next-program-requires : tie.Need-next-program-requires
+next-program-requires c κs = search needs
+
+returns-2 : tie.Need-returns-2
+returns-2 c =
+    let s = c .before .before .before .before .before in
+    let a = s .args in
+    let whole : take (length (a .block .now) - 4) (drop 4 (a .block .now)) ≡ drop 4 (a .block .now) =
+    take-all (length (a .block .now) - 4) (drop 4 (a .block .now)) (simp length-drop (omega arith)) in
+    c .next-program .ensures
+    ∙ rw whole (sym (next-rest (a .at) (a .block .now) (s .pre .0) (a .from) (omega arith) (omega arith)))
+
+slice-aggregate-next-program : tie.Need-slice-aggregate-next-program
+slice-aggregate-next-program c = simp length-take (omega arith)
+
+next-program-requires-2 : tie.Need-next-program-requires-2
+next-program-requires-2 c κs = (search needs, simp length-take (omega arith))
+
+returns-3 : tie.Need-returns-3
+returns-3 c =
+    let s = c .before .before .before .before .before in
+    let a = s .args in
+    c .next-program2 .ensures ∙ sym (next-magic (a .at) (a .block .now) (s .pre .0) (a .from) (omega arith)
+    (omega arith))
+
+pub next-in-rewrite-spec : {M : Type 1} → statement M
+next-in-rewrite-spec =
+    tie.close
+    (tie.spec
+    returns
+    sub-skip
+    add-next-program
+    sub-next-program
+    part-next-program-start
+    part-next-program-end
+    next-program-requires
+    returns-2
+    slice-aggregate-next-program
+    next-program-requires-2
+    returns-3)

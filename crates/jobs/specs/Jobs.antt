@@ -1,0 +1,80 @@
+-- The list of steps that a job value denotes, and what a run of it answers and leaves. Assumes nothing.
+use mathlib.Core.List.{List, [], _∷_, _++_}
+use Prim.Native.Nat.{ℕ, _+_}
+use lib.ListN.{take, drop, length}
+use Rattle.rules.specs.Answers.{Answer, refused, given}
+use Rattle.rules.specs.Steps.{rewrite}
+use Rattle.rules.specs.Commands.{into-places}
+use Rattle.rules.specs.Cuts.{Progress, run, may-run}
+use Rattle.rules.specs.declared.Step.{Step}
+use Rattle.jobs.specs.declared.Kind.{Kind}
+use Rattle.jobs.specs.declared.Kind.the-variants.{Nothing, Rewrite, Places}
+use Rattle.jobs.specs.declared.Plan.{Plan}
+use Rattle.jobs.specs.declared.Job.{Job}
+use Rattle.jobs.specs.declared.Did.the-variants.{Steps, Refused}
+use Rattle.jobs.specs.declared.Ran.{Ran}
+use Rattle.jobs.specs.declared.Next.{Next}
+use Rattle.jobs.specs.declared.Next.the-variants.{Is, Finished}
+
+-- the steps of a part: none, a block rewritten, or eight bytes into each of some places
+unfoldable pub part : Kind → ℕ → ℕ → List ℕ → List ℕ → List ℕ → List Step
+part Nothing at offset b ks v = []
+part Rewrite at offset b ks v = rewrite at b
+part Places at offset b ks v = into-places at offset v ks
+
+-- the steps listed when the command started: those of the first part, then those of the second
+unfoldable pub listed : Plan → List ℕ → List ℕ → List ℕ → List ℕ → List Step
+listed p b0 b1 ks v =
+    part (p .first) (p .at) (p .offset) b0 (take (p .count) ks) v
+    ++ part (p .second) (p .after) (p .offset) b1 (take (p .count) ks) v
+
+-- the steps that a job denotes: those listed, less the ones done
+unfoldable pub steps-of : Job → List Step
+steps-of j = drop (j .done) (listed (j .plan) (j .first) (j .second) (j .places) (j .value))
+
+-- ---- a run
+
+-- a job and the image that it is run on
+unfoldable pub under-way : Job → List ℕ → Progress
+under-way j img = record { image = img; left = steps-of j }
+
+-- refusals 11 and 12, or leave to run
+unfoldable pub admitted : Job → List ℕ → Answer Progress
+admitted j img = may-run (j .plan .granule) (j .plan .len) (under-way j img)
+
+-- "that many steps or all that remain"
+unfoldable pub steps-done : ℕ → Progress → ℕ
+steps-done budget p = length (take budget (p .left))
+
+-- the job with n more steps done
+abbrev pub advanced : Job → ℕ → Job
+advanced j n = record {
+  plan = j .plan;
+  done = j .done + n;
+  first = j .first;
+  second = j .second;
+  places = j .places;
+  value = j .value;
+}
+
+-- what a run returns: on a refusal the job stays
+unfoldable pub ran : Job → ℕ → Answer Progress → Ran
+ran j budget (refused n) = record { job = j; did = Refused n }
+ran j budget (given p) = record { job = advanced j (steps-done budget p); did = Steps (steps-done budget p) }
+
+-- the image after a run and the steps that the returned job denotes: on a refusal both stay
+unfoldable pub progress-after : Job → ℕ → List ℕ → Answer Progress → Progress
+progress-after j budget img (refused n) = under-way j img
+progress-after j budget img (given p) = run (j .plan .granule) budget p
+
+-- ---- what remains
+
+unfoldable pub steps-left : Job → ℕ
+steps-left j = length (steps-of j)
+
+unfoldable pub first-step : List Step → Next
+first-step [] = Finished
+first-step (s ∷ ss) = Is s
+
+unfoldable pub next-of : Job → Next
+next-of j = first-step (steps-of j)
