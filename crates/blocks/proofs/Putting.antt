@@ -1,0 +1,154 @@
+-- Bytes put into a block: what a block of 0xFF, a copy, and a pointer block become. Assumes nothing.
+use mathlib.Core.Path.{_≡_, refl, sym, ap, _∙_}
+use mathlib.Core.List.{List, [], _∷_, _++_, append-assoc, append-nil}
+use Prim.Native.Nat.{ℕ, suc, _+_, _*_, _-_, _≤_, _<_}
+use native.Mathlib.Omega.{arith}
+use lib.ListN.{length, take, drop, replicate, length-append, length-take, length-drop, length-replicate, drop-of-length-le, replicate-append-replicate}
+use lib.Seq.{paste, take-at, drop-at, drop-append-add, drop-append-le, take-length, length-take-le}
+use Rattle.rules.specs.Bytes.{bytes-of, block-size, erased-byte}
+use Rattle.rules.specs.Pointers.{place-offset, place-count}
+use Rattle.rules.specs.Commands.{pointer-bytes, filled, padded-name, put-name}
+use Rattle.rules.proofs.Words.{length-bytes-of}
+use Rattle.rules.proofs.Filling.{length-pointer-bytes}
+use Rattle.blocks.specs.Put.{erased-block, put}
+
+pub pasted : (b : List ℕ) (at : ℕ) (vs : List ℕ) → paste b at vs (length vs) ≡ put at vs b
+unfolding put
+pasted b at vs = rw (append-assoc, take-length)
+
+pub length-put : (at : ℕ) (vs b : List ℕ) → at + length vs ≤ length b → length (put at vs b) ≡ length b
+unfolding put
+length-put at vs b h = simp (length-append, length-take, length-drop) (omega arith)
+
+-- a block of the same length takes the place of all bytes
+pub put-whole : (vs b : List ℕ) → length b ≡ length vs → put 0 vs b ≡ vs
+unfolding put
+put-whole vs b l =
+    let e : drop (0 + length vs) b ≡ [] = drop-of-length-le b {i = 0 + length vs} (omega arith) in
+    rw e (append-nil vs)
+
+-- ---- the bytes outside the places kept, the places erased
+
+module _ {A : Type 0} (a : A) where
+  drop-replicate : (n m : ℕ) → drop n (replicate (n + m) a) ≡ replicate m a
+  drop-replicate n m =
+      rw (← replicate-append-replicate n m a) (drop-at (replicate n a) (replicate m a) n (length-replicate n a))
+
+  take-replicate : (n m : ℕ) → take n (replicate (n + m) a) ≡ replicate n a
+  take-replicate n m =
+      rw (← replicate-append-replicate n m a) (take-at (replicate n a) (replicate m a) n (length-replicate n a))
+
+-- the last bytes put, and others in between
+module _ (a b c w : List ℕ) (at : ℕ) (ends : length (a ++ b) ≡ at) (same-length : length c ≡ length w) where
+  put-last : put at w (a ++ (b ++ c)) ≡ a ++ (b ++ w)
+  unfolding put
+  put-last =
+      let e : a ++ (b ++ c) ≡ (a ++ b) ++ c = sym (append-assoc a b c) in
+      let none : drop (at + length w) ((a ++ b) ++ c) ≡ [] =
+      drop-of-length-le ((a ++ b) ++ c) {i = at + length w} (rw (length-append (a ++ b) c) (omega arith)) in
+      rw (e, take-at (a ++ b) c at ends, none, append-nil, append-assoc)
+
+  put-between : (s t : List ℕ) → put at w (a ++ (b ++ ((c ++ s) ++ t))) ≡ a ++ ((b ++ w) ++ (s ++ t))
+  unfolding put
+  put-between s t =
+      let e : a ++ (b ++ ((c ++ s) ++ t)) ≡ (a ++ b) ++ (c ++ (s ++ t)) = simp append-assoc in
+      let after : drop (at + length w) ((a ++ b) ++ (c ++ (s ++ t))) ≡ s ++ t =
+      rw (← ends, drop-append-add (a ++ b) (c ++ (s ++ t)) (length w)) (drop-at c (s ++ t)
+      (length w) same-length) in
+      rw (e, take-at (a ++ b) (c ++ (s ++ t)) at ends, after) (simp append-assoc)
+
+module _ (p : List ℕ) (size offset middle rest : ℕ) (whole : length p ≡ size) (fits : offset + middle + rest
+    ≡ size) where
+  length-front : length (take offset p) ≡ offset
+  length-front = length-take-le offset p (omega arith)
+
+  front-put : put 0 (take offset p) (replicate size erased-byte)
+      ≡ take offset p ++ (replicate middle erased-byte ++ replicate rest erased-byte)
+  unfolding put
+  front-put =
+      let e : size ≡ 0 + offset + (middle + rest) = omega arith in
+      rw (
+        length-front,
+        e,
+        drop-replicate erased-byte (0 + offset)
+            (middle + rest),
+        replicate-append-replicate middle rest erased-byte,
+      )
+
+  pub outside-kept : (tail : List ℕ) → tail ≡ drop (offset + middle) p
+      → put (offset + middle) tail (put 0 (take offset p) (replicate size erased-byte))
+      ≡ take offset p ++ (replicate middle erased-byte ++ drop (offset + middle) p)
+  outside-kept tail e =
+      let front = take offset p in
+      let erased = replicate middle erased-byte in
+      let after = replicate rest erased-byte in
+      ap (put (offset + middle) tail) front-put
+      ∙ put-last front erased after tail (offset + middle)
+      (length-append front erased ∙ omega (arith, length-front, length-replicate middle erased-byte))
+      (rw e (length-replicate rest erased-byte ∙ sym (length-drop (offset + middle) p ∙ omega arith)))
+      ∙ rw e
+
+pub emptied-block : (p : List ℕ) (offset count : ℕ) (tail erased : List ℕ)
+    → length p ≡ block-size
+    → place-offset p + 8 * place-count p ≤ block-size
+    → offset ≡ place-offset p
+    → count ≡ place-count p
+    → tail ≡ drop (offset + 8 * count) p
+    → erased ≡ erased-block
+    → put (offset + 8 * count) tail (put 0 (take offset p) erased) ≡ filled p []
+unfolding erased-block filled pointer-bytes
+emptied-block p offset count tail erased whole fits eo ec et ee =
+    let none-filled : place-count p - 0 ≡ place-count p = omega arith in
+    rw (ee, et, eo, ec, none-filled)
+    (outside-kept p block-size (place-offset p) (8 * place-count p)
+    (block-size - (place-offset p + 8 * place-count p)) whole (omega arith)
+    (drop (place-offset p + 8 * place-count p) p) refl)
+
+-- ---- a copy, and a copy with another name
+
+pub copied-block : (vs erased : List ℕ) → length vs ≡ block-size → erased ≡ erased-block → put 0 vs erased ≡ vs
+unfolding erased-block
+copied-block vs erased whole e = put-whole vs erased (rw e (length-replicate block-size erased-byte ∙ sym whole))
+
+pub named-block : (t n : List ℕ) (row at : ℕ) → length t ≡ block-size → at + 16 ≤ block-size → length n ≤ 16
+    → at ≡ 0x20 + 32 * row
+    → put at n (put at (replicate 16 0) t) ≡ put-name t row n
+unfolding put put-name padded-name
+named-block t n row at whole inside short e =
+    let front : length (take at t) ≡ at = length-take-le at t (omega arith) in
+    let rest : List ℕ = drop (at + 16) t in
+    let zeros : drop {A = ℕ} (length n) (replicate 16 0) ≡ replicate (16 - length n) 0 =
+    (let split : 16 ≡ length n + (16 - length n) = omega arith in
+    ap (λ (m : ℕ). drop {A = ℕ} (length n) (replicate m 0)) split ∙ drop-replicate 0 (length n)
+    (16 - length n)) in
+    let after : drop (at + length n) (take at t ++ (replicate 16 0 ++ rest)) ≡ replicate (16 - length n) 0 ++ rest =
+    ap (λ (m : ℕ). drop (m + length n) (take at t ++ (replicate 16 0 ++ rest))) (sym front)
+    ∙ drop-append-add (take at t) (replicate 16 0 ++ rest) (length n)
+    ∙ drop-append-le (length n) (replicate 16 0) rest short
+    ∙ ap (λ (z : List ℕ). z ++ rest) zeros in
+    rw (take-at (take at t) (replicate 16 0 ++ rest) at front, after) (rw e (sym (simp append-assoc)))
+
+-- ---- one pointer more
+
+pointer-bytes-last : (us : List ℕ) (v : ℕ) → pointer-bytes (us ++ (v ∷ [])) ≡ pointer-bytes us ++ bytes-of 8 v
+unfolding pointer-bytes
+pointer-bytes-last [] v = append-nil (bytes-of 8 v)
+pointer-bytes-last (u ∷ us) v = rw (pointer-bytes-last us v) (sym (append-assoc (bytes-of 8 u) (pointer-bytes us)
+    (bytes-of 8 v)))
+
+pub pointer-put : (p us : List ℕ) (v : ℕ) → place-offset p ≤ length p → length us < place-count p
+    → put (place-offset p + 8 * length us) (bytes-of 8 v) (filled p us) ≡ filled p (us ++ (v ∷ []))
+unfolding filled
+pointer-put p us v inside room =
+    let front = take (place-offset p) p in
+    let rest = 8 * (place-count p - suc (length us)) in
+    let left : 8 * (place-count p - length us) ≡ 8 + rest = omega arith in
+    let more : length (us ++ (v ∷ [])) ≡ suc (length us) = length-append us (v ∷ []) ∙ omega arith in
+    let ends : length (front ++ pointer-bytes us) ≡ place-offset p + 8 * length us =
+    length-append front (pointer-bytes us)
+    ∙ omega (arith, length-take-le (place-offset p) p inside, length-pointer-bytes us) in
+    rw (left, ← replicate-append-replicate 8 rest erased-byte, more, pointer-bytes-last us v)
+    (put-between front (pointer-bytes us) (replicate 8 erased-byte) (bytes-of 8 v)
+    (place-offset p + 8 * length us) ends
+    (length-replicate 8 erased-byte ∙ sym (length-bytes-of 8 v)) (replicate rest erased-byte)
+    (drop (place-offset p + 8 * place-count p) p))

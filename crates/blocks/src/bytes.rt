@@ -1,0 +1,63 @@
+// Bytes put into a block that is held by value.
+ghost use mathlib.Core.Path.{_≡_};
+ghost use Prim.Native.Nat.{_+_, _%_, _≤_};
+ghost use lib.ListN.{length};
+ghost use Rattle.rules.specs.Bytes.{bytes-of, block-size};
+ghost use Rattle.blocks.specs.Put.{erased-block, put};
+
+pub fn erased_block() -> [u8; 4096]
+    ensures { λ r. ⌜ r ≡ erased-block ⌝ }
+{
+    [0xFF; 4096]
+}
+
+// The block with these bytes at an offset.
+pub fn put(block: [u8; 4096], at: usize, given: &[u8]) -> [u8; 4096]
+    requires { ⌜ at + length (now given) ≤ block-size ⌝ }
+    ensures { λ r. ⌜ r ≡ put at (now (given .entry)) block ⌝ }
+{
+    let mut b = block;
+    let mut i = 0;
+    while i < given.len() {
+        b[at + i] = given[i];
+        i += 1;
+    }
+    b
+}
+
+// A lent block, by value.
+pub fn copied(block: &[u8]) -> [u8; 4096]
+    requires { ⌜ length (now block) ≡ block-size ⌝ }
+    ensures { λ r. ⌜ r ≡ now (block .entry) ⌝ }
+{
+    put(erased_block(), 0, block)
+}
+
+// The eight bytes of a number, lowest first.
+pub fn bytes_of(v: u64) -> [u8; 8]
+    ensures { λ r. ⌜ r ≡ bytes-of 8 v ⌝ }
+{
+    let b = v / 256;
+    let c = b / 256;
+    let d = c / 256;
+    let e = d / 256;
+    let f = e / 256;
+    let g = f / 256;
+    let h = g / 256;
+    [
+        byte(v),
+        byte(b),
+        byte(c),
+        byte(d),
+        byte(e),
+        byte(f),
+        byte(g),
+        byte(h),
+    ]
+}
+
+fn byte(v: u64) -> u8
+    ensures { λ r. ⌜ r ≡ v % 256 ⌝ }
+{
+    (v % 256) as u8
+}

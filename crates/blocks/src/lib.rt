@@ -1,0 +1,24 @@
+// What a command makes up beforehand: blocks by value, places, and the jobs that carry them.
+pub mod bytes; // bytes put into a block
+pub mod pointers; // the places of a pointer block, and a block with another order
+pub mod tables; // a table with another name in an entry
+pub mod made; // jobs
+
+// The numbers of some places, in the front of an array.
+pub struct Noted {
+    pub places: [u16; 508],
+    pub count: usize,
+}
+
+// A pointer block made up, and how many of its places are filled.
+pub struct Packed {
+    pub block: [u8; 4096],
+    pub count: usize,
+}
+
+// A block to be rewritten at an address, or not.
+pub struct Rewriting {
+    pub wanted: bool,
+    pub at: u32,
+    pub block: [u8; 4096],
+}

@@ -1,0 +1,108 @@
+-- A pair of which a copy is read agrees exactly if its copies are equal: refusal 6, and repair. Assumes nothing.
+use mathlib.Core.Path.{_≡_, refl, sym, _∙_, subst}
+use mathlib.Core.Bool.{Bool, true, false, not, cond, _&&_}
+use mathlib.Core.Logic.{inl, inr}
+use mathlib.Core.List.{List, _++_}
+use Prim.Native.Nat.{ℕ, _<_, _+_, _≤_}
+use native.Mathlib.Numerals.{add-one}
+use native.Mathlib.Omega.{arith}
+use lib.Dec.{eqb}
+use borrow.Author.Tests.{eq-eqb, ne-eqb}
+use lib.ListN.{length, getD, drop, drop-of-length-le}
+use lib.Seq.{drop-cons}
+use Rattle.rules.specs.Lists.{same}
+use Rattle.rules.specs.Bytes.{block}
+use Rattle.rules.specs.Answers.{given}
+use Rattle.rules.specs.Numbers.{Setting}
+use Rattle.rules.specs.Table.{table-stands}
+use Rattle.rules.specs.Pointers.{pointers-stand}
+use Rattle.rules.specs.Copies.{copy-read, table-read, pointers-read, view, pair-agrees, tables-agree, pointers-agree, agree-by}
+use Rattle.rules.specs.Commands.{repair-pair, repair-steps}
+use Rattle.rules.specs.declared.View.{View}
+use Rattle.rules.proofs.Tests.{by-cases, clash, same-true}
+use Rattle.rules.proofs.CopyRead.{WhichAddress, which-address, equal-agree}
+use Rattle.walks.proofs.Joined.{and-with-false}
+use Rattle.reading.proofs.Seen.{seen}
+use Rattle.commands.specs.Asked.{copies-equal, repaired}
+
+-- ---- two lists compared, element by element
+
+module _ (a b : List ℕ) (i : ℕ) (within : i < length a) (same-length : length a ≡ length b) where
+  same-cons : same (drop i a) (drop i b) ≡ eqb (getD a i 0) (getD b i 0) && same (drop (i + 1) a) (drop (i + 1) b)
+  unfolding same
+  same-cons = rw (drop-cons a i 0 within, drop-cons b i 0 (omega arith), add-one)
+
+  pub same-goes : getD a i 0 ≡ getD b i 0 → same (drop i a) (drop i b) ≡ same (drop (i + 1) a) (drop (i + 1) b)
+  same-goes e = same-cons ∙ rw (eq-eqb (getD a i 0) (getD b i 0) e)
+
+  pub same-fails : (getD a i 0 ≡ getD b i 0 → ⊥) → same (drop i a) (drop i b) ≡ false
+  same-fails e = same-cons ∙ rw (ne-eqb (getD a i 0) (getD b i 0) e)
+
+pub same-over : (a b : List ℕ) (i : ℕ) → length a ≤ i → length a ≡ length b → same (drop i a) (drop i b) ≡ true
+unfolding same
+same-over a b i over same-length =
+    rw (drop-of-length-le a {i = i} over, drop-of-length-le b {i = i} (omega arith))
+
+-- ---- one pair
+
+module _ (n : ℕ) (stands : List ℕ → Bool) (img : List ℕ) (a0 a1 read : ℕ)
+    (reads : copy-read n stands img a0 a1 ≡ given read) where
+  pub agree-if-equal : pair-agrees stands img a0 a1 ≡ same (block img a0) (block img a1)
+  unfolding pair-agrees
+  agree-if-equal =
+      by-cases (same (block img a0) (block img a1))
+      (λ t. equal t (which-address n stands img a0 a1 read reads) ∙ sym t)
+      (λ f. rw f (and-with-false (stands (block img a0) && stands (block img a1))))
+    where
+      equal : same (block img a0) (block img a1) ≡ true → WhichAddress n stands img a0 a1 read
+          → stands (block img a0) && stands (block img a1) && same (block img a0) (block img a1) ≡ true
+      equal t (inl (stand0, _)) =
+          equal-agree stands img a0 a1 stand0 (same-true (block img a0) (block img a1) t)
+      equal t (inr (falls, stand1, _)) =
+          let e = same-true (block img a0) (block img a1) t in
+          absurd (clash (stands (block img a1)) stand1 (subst (λ (b : List ℕ). stands b ≡ false) e falls))
+
+  pub repair-if-different : repair-pair stands img a0 a1 read ≡ repaired img a0 a1 read
+  unfolding repair-pair repaired
+  repair-if-different = rw agree-if-equal
+
+-- of two things one
+module _ {A : Type 0} (x y : A) where
+  pub cond-not : (t : Bool) → cond (not t) x y ≡ cond t y x
+  cond-not true = refl
+  cond-not false = refl
+
+pub either-within : (t : Bool) (a b most : ℕ) → a ≤ most → b ≤ most → cond t a b ≤ most
+either-within true a b most ha hb = ha
+either-within false a b most ha hb = hb
+
+-- ---- both pairs
+
+module _ (s : Setting) (img : List ℕ) (v : View) (h : view s img ≡ given v) where
+  table-copy : copy-read 4 (table-stands s (length img)) img (v .spt0) (v .spt1) ≡ given (v .table)
+  unfolding table-read
+  table-copy = let k = seen s img v h in rw (k .same-spt0, k .same-spt1) (k .table-copy)
+
+  pointer-copy : copy-read 5 pointers-stand img (v .cpb0) (v .cpb1) ≡ given (v .pointers)
+  unfolding pointers-read
+  pointer-copy = let k = seen s img v h in rw (k .same-cpb0, k .same-cpb1) (k .pointer-copy)
+
+  pub pairs-agree-if-equal : agree-by s img v ≡ copies-equal img v
+  unfolding table-read agree-by tables-agree pointers-agree copies-equal
+  pairs-agree-if-equal =
+      let k = seen s img v h in
+      rw (
+        k .same-spt0,
+        k .same-spt1,
+        agree-if-equal 4 (table-stands s (length img)) img (s .spt0) (s .spt1) (v .table) (k .table-copy),
+        agree-if-equal 5 pointers-stand img (v .cpb0) (v .cpb1) (v .pointers) pointer-copy,
+      )
+
+  pub repair-by-copies : repair-steps s img v
+      ≡ repaired img (v .spt0) (v .spt1) (v .table) ++ repaired img (v .cpb0) (v .cpb1) (v .pointers)
+  unfolding repair-steps
+  repair-by-copies =
+      rw (
+        repair-if-different 4 (table-stands s (length img)) img (v .spt0) (v .spt1) (v .table) table-copy,
+        repair-if-different 5 pointers-stand img (v .cpb0) (v .cpb1) (v .pointers) pointer-copy,
+      )

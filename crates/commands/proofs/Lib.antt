@@ -1,0 +1,4 @@
+pub mod Locating
+pub mod EqualCopies
+pub mod Asking
+pub mod CommandSteps

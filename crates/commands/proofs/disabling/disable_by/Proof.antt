@@ -1,0 +1,194 @@
+-- `disable_by` refuses or starts disable as its definition says. Assumes nothing.
+use mathlib.Core.Path.{_≡_, refl}
+use Prim.Native.Nat.{_<_}
+use native.Mathlib.Omega.{arith}
+use lib.ListN.{length, take, length-take}
+use borrow.Author.Needs.{needs}
+use Rattle.rules.specs.Numbers.{setting}
+use Rattle.rules.specs.Table.{rows, slot-starts}
+use Rattle.rules.specs.Commands.{disable-steps, job, disable}
+use Rattle.jobs.specs.Parts.{place-room}
+use Rattle.commands.specs.Asked.{Located}
+use Rattle.commands.proofs.Locating.{located, readable}
+use Rattle.commands.proofs.Asking.{begins-refused, begins-started, disable-refused, disable-refused-8, disable-given, slot-below}
+use Rattle.commands.proofs.disabling.disable_by.Statement.{statement}
+use Rattle.commands.proofs.disabling.disable_by.Tie as tie
+
+-- what the view says of where the blocks are
+where-blocks-are : (s : tie.Start) → Located (s .args .image .now) (s .args .v)
+where-blocks-are s =
+    located (setting (s .args .granule) (s .args .v .spt0) (s .args .v .spt1)) (s .args .image .now) (s .args .v)
+    (s .pre)
+
+-- the array of the places that were found has its length
+room-noted : (c : tie.After-giving) → length (c .giving .result .places) ≡ place-room
+room-noted c = search needs
+
+ask-slot-requires : tie.Need-ask-slot-requires
+ask-slot-requires c κs =
+    let s = c .before in
+    where-blocks-are s
+
+enum-known-asked : tie.Need-enum-known-asked
+enum-known-asked c = search needs
+
+refuse-requires : tie.Need-refuse-requires
+refuse-requires c κs = search needs
+
+enum-told : tie.Need-enum-told
+enum-told c = search needs
+
+block-at-requires : tie.Need-block-at-requires
+block-at-requires c κs =
+    let s = c .before .before .before .before in
+    where-blocks-are s .table-inside
+
+block-at-requires-2 : tie.Need-block-at-requires-2
+block-at-requires-2 c κs =
+    let s = c .before .before .before .before .before in
+    where-blocks-are s .pointers-inside
+
+entry-count-requires : tie.Need-entry-count-requires
+entry-count-requires c κs = search needs
+
+giving-requires : tie.Need-giving-requires
+giving-requires c κs =
+    let at-block-at2 = c .before in
+    let at-block-at = at-block-at2 .before in
+    let s = at-block-at .before .before .before .before .before in
+    let l = where-blocks-are s in
+    readable (s .args .image .now) (s .args .v) (at-block-at .block-at .result .now)
+    (at-block-at2 .block-at2 .result .now) (c .entry-count .result) l
+    (at-block-at .block-at .ensures) (at-block-at2 .block-at2 .ensures) (c .entry-count .ensures)
+
+refuse-requires-2 : tie.Need-refuse-requires-2
+refuse-requires-2 c κs = search needs
+
+returns : tie.Need-returns
+returns c =
+    let at-if1 = c .before in
+    let at-giving = at-if1 .before .before in
+    let at-entry-count = at-giving .before in
+    let at-block-at2 = at-entry-count .before in
+    let at-block-at = at-block-at2 .before in
+    let at-enum-told = at-block-at .before in
+    let at-ask-slot = at-enum-told .before .before in
+    let s = at-ask-slot .before .before in
+    let a = s .args in
+    let img = a .image .now in
+    let st = setting (a .granule) (a .v .spt0) (a .v .spt1) in
+    let t = at-block-at .block-at .result .now in
+    let ks = take (at-giving .giving .result .count) (at-giving .giving .result .places) in
+    let none : length ks ≡ 0 = rw (at-if1 .if1 .taken) refl in
+    begins-refused (c .refuse2 .result) (length img) (a .granule) (job st img (a .v) (disable (a .slot .0))) 8
+    (c .refuse2 .ensures)
+    (disable-refused-8 st img (a .v) (s .pre) (a .slot .0) (at-ask-slot .ask-slot .result)
+    (at-ask-slot .ask-slot .ensures) (at-enum-told .enum-told .given .1) t
+    (at-entry-count .entry-count .result) (at-block-at .block-at .ensures .0) (at-entry-count .entry-count .ensures)
+    (at-block-at2 .block-at2 .result .now)
+    (at-block-at2 .block-at2 .ensures .0) ks (at-giving .giving .ensures .0) none)
+
+cast-disable-job : tie.Need-cast-disable-job
+cast-disable-job c =
+    let s = c .before .before .before .before .before .before .before .before .before .before .before in
+    let l = where-blocks-are s in omega (arith, l .cpb0-inside, l .short)
+
+cast-disable-job-2 : tie.Need-cast-disable-job-2
+cast-disable-job-2 c =
+    let s = c .before .before .before .before .before .before .before .before .before .before .before .before in
+    let l = where-blocks-are s in omega (arith, l .cpb1-inside, l .short)
+
+disable-job-requires : tie.Need-disable-job-requires
+disable-job-requires c κs =
+    let at-giving = c .before .before .before .before in
+    let at-entry-count = at-giving .before in
+    let at-block-at2 = at-entry-count .before in
+    let at-block-at = at-block-at2 .before in
+    let at-enum-told = at-block-at .before in
+    let at-ask-slot = at-enum-told .before .before in
+    let s = at-ask-slot .before .before in
+    let l = where-blocks-are s in
+    let a = s .args in
+    let img = a .image .now in
+    let st = setting (a .granule) (a .v .spt0) (a .v .spt1) in
+    let t = at-block-at .block-at .result .now in
+    let n = at-entry-count .entry-count .result in (
+      (
+        readable img (a .v) t (at-block-at2 .block-at2 .result .now) n l (at-block-at .block-at .ensures)
+            (at-block-at2 .block-at2 .ensures) (at-entry-count .entry-count .ensures),
+        slot-below st img (a .v) (s .pre) (a .slot .0) (at-ask-slot .ask-slot .result)
+            (at-ask-slot .ask-slot .ensures)
+            (at-enum-told .enum-told .given .1) t n
+            (at-block-at .block-at .ensures .0) (at-entry-count .entry-count .ensures),
+      ),
+      at-giving .giving .ensures .0,
+    )
+
+begun-requires : tie.Need-begun-requires
+begun-requires c κs = search needs
+
+returns-2 : tie.Need-returns-2
+returns-2 c =
+    let at-asked = c .before .before in
+    let at-ask-slot = at-asked .before .before in
+    let s = at-ask-slot .before .before in
+    let a = s .args in
+    let img = a .image .now in
+    let st = setting (a .granule) (a .v .spt0) (a .v .spt1) in
+    begins-refused (c .refuse .result) (length img) (a .granule) (job st img (a .v) (disable (a .slot .0)))
+    (at-asked .asked .given .0 .0)
+    (c .refuse .ensures)
+    (disable-refused st img (a .v) (s .pre) (a .slot .0) (at-ask-slot .ask-slot .result)
+    (at-ask-slot .ask-slot .ensures) (at-asked .asked .given .0 .0)
+    (at-asked .asked .given .1))
+
+returns-3 : tie.Need-returns-3
+returns-3 c =
+    let at-disable-job = c .before in
+    let at-if1 = at-disable-job .before .before .before in
+    let at-giving = at-if1 .before .before in
+    let at-entry-count = at-giving .before in
+    let at-block-at2 = at-entry-count .before in
+    let at-block-at = at-block-at2 .before in
+    let at-enum-told = at-block-at .before in
+    let at-ask-slot = at-enum-told .before .before in
+    let s = at-ask-slot .before .before in
+    let a = s .args in
+    let img = a .image .now in
+    let st = setting (a .granule) (a .v .spt0) (a .v .spt1) in
+    let t = at-block-at .block-at .result .now in
+    let p = at-block-at2 .block-at2 .result .now in
+    let n = at-entry-count .entry-count .result in
+    let found = at-giving .giving .result in
+    let ks = take (found .count) (found .places) in
+    let room : length (found .places) ≡ place-room = room-noted (at-giving) in
+    let some : 0 < length ks = simp length-take (omega (arith, at-giving .giving .ensures .1, at-if1 .if1 .left)) in
+    begins-started (c .begun .result) (length img) (a .granule) (job st img (a .v) (disable (a .slot .0)))
+    (at-disable-job .disable-job .result)
+    (disable-steps (a .v .cpb0) (a .v .cpb1) (slot-starts (rows n t)) p (a .slot .0)) (c .begun .ensures)
+    (at-disable-job .disable-job .ensures)
+    (disable-given st img (a .v) (s .pre) (a .slot .0) (at-ask-slot .ask-slot .result)
+    (at-ask-slot .ask-slot .ensures) (at-enum-told .enum-told .given .1) t n
+    (at-block-at .block-at .ensures .0) (at-entry-count .entry-count .ensures) p
+    (at-block-at2 .block-at2 .ensures .0) ks (at-giving .giving .ensures .0) some)
+
+pub disable-by-spec : {M : Type 1} → statement M
+disable-by-spec =
+    tie.close
+    (tie.spec
+    ask-slot-requires
+    enum-known-asked
+    refuse-requires
+    enum-told
+    block-at-requires
+    block-at-requires-2
+    entry-count-requires
+    giving-requires
+    refuse-requires-2
+    returns
+    cast-disable-job
+    cast-disable-job-2
+    disable-job-requires
+    begun-requires
+    returns-2
+    returns-3)

@@ -1,0 +1,136 @@
+-- `enable_by` refuses or starts enable as its definition says. Assumes nothing.
+use native.Mathlib.Omega.{arith}
+use lib.ListN.{length}
+use borrow.Author.Needs.{needs}
+use Rattle.rules.specs.Numbers.{setting}
+use Rattle.rules.specs.Table.{rows, slot-starts}
+use Rattle.rules.specs.Commands.{enable-steps, job, enable}
+use Rattle.commands.specs.Asked.{Located}
+use Rattle.commands.proofs.Locating.{located, readable}
+use Rattle.commands.proofs.Asking.{begins-refused, begins-started, enable-refused, enable-given, slot-below}
+use Rattle.commands.proofs.enabling.enable_by.Statement.{statement}
+use Rattle.commands.proofs.enabling.enable_by.Tie as tie
+
+-- what the view says of where the blocks are
+where-blocks-are : (s : tie.Start) → Located (s .args .image .now) (s .args .v)
+where-blocks-are s =
+    located (setting (s .args .granule) (s .args .v .spt0) (s .args .v .spt1)) (s .args .image .now) (s .args .v)
+    (s .pre)
+
+ask-slot-requires : tie.Need-ask-slot-requires
+ask-slot-requires c κs =
+    let s = c .before in
+    where-blocks-are s
+
+enum-known-asked : tie.Need-enum-known-asked
+enum-known-asked c = search needs
+
+refuse-requires : tie.Need-refuse-requires
+refuse-requires c κs = search needs
+
+enum-told : tie.Need-enum-told
+enum-told c = search needs
+
+block-at-requires : tie.Need-block-at-requires
+block-at-requires c κs =
+    let s = c .before .before .before .before in
+    where-blocks-are s .table-inside
+
+block-at-requires-2 : tie.Need-block-at-requires-2
+block-at-requires-2 c κs =
+    let s = c .before .before .before .before .before in
+    where-blocks-are s .pointers-inside
+
+entry-count-requires : tie.Need-entry-count-requires
+entry-count-requires c κs = search needs
+
+cast-enable-job : tie.Need-cast-enable-job
+cast-enable-job c =
+    let s = c .before .before .before .before .before .before .before .before in
+    let l = where-blocks-are s in omega (arith, l .cpb0-inside, l .short)
+
+cast-enable-job-2 : tie.Need-cast-enable-job-2
+cast-enable-job-2 c =
+    let s = c .before .before .before .before .before .before .before .before .before in
+    let l = where-blocks-are s in omega (arith, l .cpb1-inside, l .short)
+
+enable-job-requires : tie.Need-enable-job-requires
+enable-job-requires c κs =
+    let at-entry-count = c .before .before in
+    let at-block-at2 = at-entry-count .before in
+    let at-block-at = at-block-at2 .before in
+    let at-enum-told = at-block-at .before in
+    let at-ask-slot = at-enum-told .before .before in
+    let s = at-ask-slot .before .before in
+    let l = where-blocks-are s in
+    let a = s .args in
+    let img = a .image .now in
+    let st = setting (a .granule) (a .v .spt0) (a .v .spt1) in
+    let t = at-block-at .block-at .result .now in
+    let n = at-entry-count .entry-count .result in (
+      readable img (a .v) t (at-block-at2 .block-at2 .result .now) n l (at-block-at .block-at .ensures)
+          (at-block-at2 .block-at2 .ensures) (at-entry-count .entry-count .ensures),
+      slot-below st img (a .v) (s .pre) (a .slot .0) (at-ask-slot .ask-slot .result) (at-ask-slot .ask-slot .ensures)
+          (at-enum-told .enum-told .given .1) t n
+          (at-block-at .block-at .ensures .0) (at-entry-count .entry-count .ensures),
+    )
+
+begun-requires : tie.Need-begun-requires
+begun-requires c κs = search needs
+
+returns : tie.Need-returns
+returns c =
+    let at-asked = c .before .before in
+    let at-ask-slot = at-asked .before .before in
+    let s = at-ask-slot .before .before in
+    let a = s .args in
+    let img = a .image .now in
+    let st = setting (a .granule) (a .v .spt0) (a .v .spt1) in
+    begins-refused (c .refuse .result) (length img) (a .granule) (job st img (a .v) (enable (a .slot .0)))
+    (at-asked .asked .given .0 .0)
+    (c .refuse .ensures)
+    (enable-refused st img (a .v) (s .pre) (a .slot .0) (at-ask-slot .ask-slot .result)
+    (at-ask-slot .ask-slot .ensures) (at-asked .asked .given .0 .0)
+    (at-asked .asked .given .1))
+
+returns-2 : tie.Need-returns-2
+returns-2 c =
+    let at-enable-job = c .before in
+    let at-entry-count = at-enable-job .before .before .before in
+    let at-block-at2 = at-entry-count .before in
+    let at-block-at = at-block-at2 .before in
+    let at-enum-told = at-block-at .before in
+    let at-ask-slot = at-enum-told .before .before in
+    let s = at-ask-slot .before .before in
+    let a = s .args in
+    let img = a .image .now in
+    let st = setting (a .granule) (a .v .spt0) (a .v .spt1) in
+    let t = at-block-at .block-at .result .now in
+    let p = at-block-at2 .block-at2 .result .now in
+    let n = at-entry-count .entry-count .result in
+    begins-started (c .begun .result) (length img) (a .granule) (job st img (a .v) (enable (a .slot .0)))
+    (at-enable-job .enable-job .result)
+    (enable-steps (a .v .cpb0) (a .v .cpb1) (slot-starts (rows n t)) p (a .slot .0)) (c .begun .ensures)
+    (at-enable-job .enable-job .ensures)
+    (enable-given st img (a .v) (s .pre) (a .slot .0) (at-ask-slot .ask-slot .result)
+    (at-ask-slot .ask-slot .ensures) (at-enum-told .enum-told .given .1) t n
+    (at-block-at .block-at .ensures .0) (at-entry-count .entry-count .ensures) p
+    (at-block-at2 .block-at2 .ensures .0))
+
+pub enable-by-spec : {M : Type 1} → statement M
+enable-by-spec =
+    tie.close
+    (tie.spec
+    ask-slot-requires
+    enum-known-asked
+    refuse-requires
+    enum-told
+    block-at-requires
+    block-at-requires-2
+    entry-count-requires
+    cast-enable-job
+    cast-enable-job-2
+    enable-job-requires
+    begun-requires
+    returns
+    returns-2)

@@ -1,0 +1,44 @@
+// Refusals 6 and 7, which enable, disable and rename share, and what a start returns.
+use super::Begun;
+use super::Outcome;
+use super::pairs;
+use jobs::Job;
+use rules::SlotNo;
+use rules::View;
+ghost use mathlib.Core.Path.{_≡_};
+ghost use Rattle.commands.specs.Begins.{refusal, started};
+ghost use Rattle.commands.specs.Asked.{Located, outcome, slot-asked};
+
+pub fn refuse(no: u8) -> Begun
+    ensures { λ r. ⌜ r ≡ refusal no ⌝ }
+{
+    Begun {
+        job: blocks::made::no_job(),
+        answer: Outcome::Refused(no),
+    }
+}
+
+pub fn begun(job: Job) -> Begun
+    ensures { λ r. ⌜ r ≡ started job ⌝ }
+{
+    Begun {
+        job: job,
+        answer: Outcome::Started,
+    }
+}
+
+// Both pairs agree, and the slot is there.
+pub fn ask_slot(image: &[u8], v: View, slot: SlotNo) -> Outcome
+    requires { ⌜ Located (now image) v ⌝ }
+    ensures { λ r. ⌜ outcome r ≡ slot-asked (now (image .entry)) v (slot .0) ⌝ }
+{
+    if !(pairs::same_blocks(image, v.spt0, v.spt1) & pairs::same_blocks(image, v.cpb0, v.cpb1)) {
+        return Outcome::Refused(6);
+    }
+    let at = v.table;
+    let t = fields::block_at(image, at);
+    if slots::count_slots(t, entries::entry_count(t)) <= slot.0 as usize {
+        return Outcome::Refused(7);
+    }
+    Outcome::Started
+}

@@ -1,0 +1,83 @@
+// Rename, once the view of the flash is known.
+use super::Begun;
+use super::Outcome;
+use super::refusals;
+use blocks::made;
+use blocks::tables;
+use jobs::Job;
+use rules::EntryNo;
+use rules::SlotNo;
+use rules::View;
+ghost use mathlib.Core.Path.{_≡_};
+ghost use Prim.Native.Nat.{_≤_, _<_};
+ghost use mathlib.Core.Bool.{Bool, true, cond};
+ghost use mathlib.Core.List.{[]};
+ghost use lib.ListN.{length};
+ghost use Rattle.rules.specs.Bytes.{block-size, up-to-zero};
+ghost use Rattle.rules.specs.Answers.{given};
+ghost use Rattle.rules.specs.Numbers.{setting};
+ghost use Rattle.rules.specs.Table.{has-name};
+ghost use Rattle.rules.specs.Steps.{rewrite-pair};
+ghost use Rattle.rules.specs.Copies.{view};
+ghost use Rattle.rules.specs.Commands.{put-name, job, rename};
+ghost use Rattle.walks.specs.Entries.{entry-at, most-entries};
+ghost use Rattle.blocks.specs.Made.{Lists};
+ghost use Rattle.commands.specs.Begins.{begins};
+
+// Refusals 6, 7, 9 and 10, or the job of rename.
+pub fn rename_by(image: &[u8], v: View, granule: usize, slot: SlotNo, name: &[u8]) -> Begun
+    requires { ⌜ view (setting granule (v .spt0) (v .spt1)) (now image) ≡ given v ⌝ }
+    ensures { λ r. ⌜
+        begins r (length (now (image .entry))) granule
+        (job (setting granule (v .spt0) (v .spt1)) (now (image .entry)) v (rename (slot .0) (now (name .entry))))
+        ⌝ }
+{
+    let asked = refusals::ask_slot(image, v, slot);
+    match asked {
+        Outcome::Refused(no) => refusals::refuse(no),
+        Outcome::Started => {
+            if !tables::name_allowed(name) {
+                return refusals::refuse(9);
+            }
+            let table_at = v.table;
+            let t = fields::block_at(image, table_at);
+            let n = entries::entry_count(t);
+            let row = slots::slot_row(t, n, slot);
+            if !tables::name_free(t, n, row, name) {
+                return refusals::refuse(10);
+            }
+            refusals::begun(rename_job(
+                t,
+                row,
+                name,
+                image.len(),
+                granule,
+                v.spt0 as u32,
+                v.spt1 as u32,
+            ))
+        }
+    }
+}
+
+// The job, by the table read and the entry of the slot: no steps where it has the name already.
+fn rename_job(
+    t: &[u8],
+    row: EntryNo,
+    name: &[u8],
+    len: usize,
+    granule: usize,
+    spt0: u32,
+    spt1: u32,
+) -> Job
+    requires { ⌜ ((length (now t) ≡ block-size) × (row .0 < most-entries)) × (length (now name) ≤ 16) ⌝ }
+    ensures { λ r. ⌜
+        Lists r len granule
+        (cond (has-name (up-to-zero (now (name .entry))) (entry-at (now (t .entry)) (row .0))) []
+        (rewrite-pair spt0 spt1 (put-name (now (t .entry)) (row .0) (now (name .entry)))))
+        ⌝ }
+{
+    if entries::has_name(t, row, name) {
+        return made::no_steps(len, granule);
+    }
+    made::pair_rewritten(len, granule, spt0, spt1, tables::with_name(t, row, name))
+}
