@@ -1,0 +1,238 @@
+// Cuts every command at every step, and inside every erase, on the images under data/, and counts what is read then.
+//
+// After each cut the flash is repaired and one further command is finished. A line for each command says how many
+// cuts there were, how many left the old reading, the new one or another, after how many the repair kept the reading
+// and made the pairs agree, and after how many the further command then left what the book says.
+use bench::Done;
+use book::Book;
+use book::Command;
+use book::Setting;
+use jobs::Job;
+use jobs::Next;
+use libc::STDOUT_FILENO;
+use rules::SlotNo;
+use rules::Step;
+use tally::Tally;
+ghost use mathlib.Core.Path.{_≡_};
+ghost use lib.ListN.{length};
+
+mod printing;
+mod tally;
+
+// The length of the longest of the images.
+const LONGEST: usize = 458752;
+
+fn image_buffer() -> [u8; LONGEST]
+    ensures { λ r. ⌜ 458752 ≡ length r ⌝ }
+{
+    [0; LONGEST]
+}
+
+// ---- one cut
+
+// A command of 16 steps or more: it enables a slot that is not the first.
+fn further(cut: Book) -> Command {
+    let order = cut.order;
+    let row = order.row;
+    if row[0] == 2 {
+        return Command::Enable(SlotNo(1));
+    }
+    Command::Enable(SlotNo(2))
+}
+
+fn is_long(done: Done) -> bool {
+    match done {
+        Done::Steps(n) => 16 <= n,
+        Done::Refused(_) => false,
+    }
+}
+
+// The flash, with so many bytes from an address on wiped, and what it reads as.
+fn cut_flash(flash: &[u8], work: &mut [u8], s: Setting, at: usize, k: usize) -> Book {
+    bench::copy(flash, work);
+    bench::wipe(work, at, k);
+    book::read_book(work, s)
+}
+
+// A repair keeps the reading and makes the pairs agree.
+fn is_repaired(work: &mut [u8], s: Setting, cut: Book) -> bool {
+    bench::finish(work, s, Command::Repair);
+    book::same_book(book::read_book(work, s), cut) & book::pairs_agree(work, s)
+}
+
+// A further command leaves what the book says.
+fn is_right_then(work: &mut [u8], s: Setting, cut: Book) -> bool {
+    let next = further(cut);
+    let long = is_long(bench::finish(work, s, next));
+    let held = book::same_book(book::read_book(work, s), book::booked(cut, next));
+    long & (held & book::pairs_agree(work, s))
+}
+
+fn try_cut(
+    flash: &[u8],
+    work: &mut [u8],
+    s: Setting,
+    at: usize,
+    k: usize,
+    old: Book,
+    new: Book,
+    t: Tally,
+) -> Tally {
+    let cut = cut_flash(flash, work, s, at, k);
+    let repaired = is_repaired(work, s, cut);
+    let right = is_right_then(work, s, cut);
+    tally::counted(
+        t,
+        book::same_book(cut, old),
+        book::same_book(cut, new),
+        repaired,
+        right,
+    )
+}
+
+// How many bytes of the granule a cut inside an erase leaves wiped, of eight choices.
+fn wiped_bytes(choice: usize, granule: usize) -> usize {
+    match choice {
+        0 | 1 | 2 | 3 | 4 => choice,
+        5 => 4095,
+        6 => 4096,
+        _ => granule,
+    }
+}
+
+fn try_erase(
+    flash: &[u8],
+    work: &mut [u8],
+    s: Setting,
+    at: usize,
+    old: Book,
+    new: Book,
+    t: Tally,
+) -> Tally {
+    let mut sum = t;
+    let mut i = 0;
+    while i < 8 {
+        sum = try_cut(flash, work, s, at, wiped_bytes(i, s.granule), old, new, sum);
+        i += 1;
+    }
+    sum
+}
+
+// The cuts at the next step of a job.
+fn try_next(
+    flash: &[u8],
+    work: &mut [u8],
+    s: Setting,
+    next: Next,
+    old: Book,
+    new: Book,
+    t: Tally,
+) -> Tally {
+    match next {
+        Next::Finished => t,
+        Next::Is(step) => match step {
+            Step::Program(_, _) => try_cut(flash, work, s, 0, 0, old, new, t),
+            Step::Erase(at) => try_erase(flash, work, s, at, old, new, t),
+        },
+    }
+}
+
+// ---- one command
+
+fn one_step(job: Job, flash: &mut [u8]) -> Job {
+    let ran = jobs::run(job, flash, 1);
+    let next = ran.job;
+    next
+}
+
+// Every cut of a job, on a flash that starts as the image on which the job was started.
+fn try_job(
+    flash: &mut [u8],
+    work: &mut [u8],
+    s: Setting,
+    first: Job,
+    old: Book,
+    new: Book,
+) -> Tally {
+    let count = jobs::remaining(first);
+    let mut job = first;
+    let mut sum = tally::nothing();
+    let mut n = 0;
+    while n < count {
+        sum = try_next(flash, work, s, jobs::next_step(job), old, new, sum);
+        job = one_step(job, flash);
+        n += 1;
+    }
+    sum
+}
+
+// Starts a command on an image, and tries every cut of its job on a flash that starts as this image.
+fn try_start(image: &[u8], flash: &mut [u8], work: &mut [u8], s: Setting, command: Command) {
+    bench::copy(image, flash);
+    let old = book::read_book(image, s);
+    let begun = bench::begin(image, s, command);
+    let job = begun.job;
+    let answer = begun.answer;
+    let sum = try_job(flash, work, s, job, old, book::booked(old, command));
+    printing::print_result(answer, jobs::remaining(job), sum);
+}
+
+fn try_command(image: &[u8], s: Setting, command: Command) {
+    let n = image.len();
+    if LONGEST < n {
+        return;
+    }
+    let mut flash = image_buffer();
+    let mut work = image_buffer();
+    try_start(image, &mut flash[..n], &mut work[..n], s, command);
+}
+
+// ---- all of them
+
+fn try_slot(image: &[u8], s: Setting, slot: u32) {
+    printing::print_command(b"enable ", slot);
+    try_command(image, s, Command::Enable(SlotNo(slot)));
+    printing::print_command(b"disable ", slot);
+    try_command(image, s, Command::Disable(SlotNo(slot)));
+}
+
+fn try_image(image: &[u8], s: Setting) {
+    try_slot(image, s, 0);
+    try_slot(image, s, 1);
+    try_slot(image, s, 2);
+    printing::print_command(b"rename ", 0);
+    try_command(image, s, Command::Rename(SlotNo(0)));
+    io::write_all(STDOUT_FILENO, b"repair: ");
+    try_command(image, s, Command::Repair);
+}
+
+fn try_file(path: &[u8], s: Setting) {
+    io::write_all(STDOUT_FILENO, path);
+    io::write_all(STDOUT_FILENO, b"\n");
+    let mut image = image_buffer();
+    let fd = os::open_read(path);
+    let n = io::read_full(fd, &mut image);
+    libc::close(fd);
+    try_image(&image[..n], s);
+}
+
+fn main() {
+    let s = Setting {
+        granule: 4096,
+        spt0: 0x4000,
+        spt1: 0x5000,
+    };
+    try_file(b"quarry.img", s);
+    try_file(b"highest_506.img", s);
+    try_file(b"highest_507.img", s);
+    try_file(b"moved.img", s);
+    try_file(b"moved_three.img", s);
+    try_file(b"first_copies_damaged.img", s);
+    try_file(b"second_copies_damaged.img", s);
+    let wide = Setting {
+        granule: 65536,
+        spt0: 0x20000,
+        spt1: 0x30000,
+    };
+    try_file(b"wide.img", wide);
+}

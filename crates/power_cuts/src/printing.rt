@@ -1,0 +1,35 @@
+// The line of a command.
+use super::tally::Tally;
+use commands::Outcome;
+use libc::STDOUT_FILENO;
+
+pub fn print_command(command: &[u8], slot: u32) {
+    io::write_all(STDOUT_FILENO, command);
+    io::print_decimal(STDOUT_FILENO, slot as u64);
+    io::write_all(STDOUT_FILENO, b": ");
+}
+
+fn print_count(n: u64, what: &[u8]) {
+    io::print_decimal(STDOUT_FILENO, n);
+    io::write_all(STDOUT_FILENO, what);
+}
+
+fn print_tally(steps: usize, t: Tally) {
+    print_count(steps as u64, b" steps, ");
+    print_count(t.cuts, b" cuts: ");
+    print_count(t.old, b" old, ");
+    print_count(t.new, b" new, ");
+    print_count(t.neither, b" neither; ");
+    print_count(t.repaired, b" repaired, ");
+    print_count(t.right, b" then right\n");
+}
+
+pub fn print_result(answer: Outcome, steps: usize, t: Tally) {
+    match answer {
+        Outcome::Refused(number) => {
+            io::write_all(STDOUT_FILENO, b"refused ");
+            print_count(number as u64, b"\n");
+        }
+        Outcome::Started => print_tally(steps, t),
+    }
+}

@@ -1,0 +1,206 @@
+// Runs the cases of document 01 on the images under data/ and prints what happens.
+use book::Command;
+use book::Setting;
+use jobs::Next;
+use libc::STDOUT_FILENO;
+use rules::SlotNo;
+use rules::Step;
+ghost use mathlib.Core.Path.{_≡_};
+ghost use lib.ListN.{length};
+
+mod printing;
+
+// The length of the longest of the images.
+const LONGEST: usize = 528384;
+
+const CPB0: usize = 0x6000;
+
+const CPB1: usize = 0x7000;
+
+fn image_buffer() -> [u8; LONGEST]
+    ensures { λ r. ⌜ 528384 ≡ length r ⌝ }
+{
+    [0; LONGEST]
+}
+
+fn quarry() -> Setting {
+    Setting {
+        granule: 4096,
+        spt0: 0x4000,
+        spt1: 0x5000,
+    }
+}
+
+// ---- what the cases do
+
+// Starts a command, does all its steps and prints how many, or the refusal.
+fn finish(image: &mut [u8], command: Command) {
+    printing::print_command(command);
+    printing::print_done(bench::finish(image, quarry(), command));
+}
+
+fn finish_rename(image: &mut [u8], name: &[u8]) {
+    let s = quarry();
+    let begun = commands::start_rename(image, s.granule, s.spt0, s.spt1, SlotNo(0), name);
+    io::write_all(STDOUT_FILENO, b"rename 0 ");
+    io::write_all(STDOUT_FILENO, name);
+    io::write_all(STDOUT_FILENO, b": ");
+    printing::print_done(bench::run_begun(image, begun));
+}
+
+fn wipe_next(image: &mut [u8], next: Next, k: usize) {
+    match next {
+        Next::Finished => {}
+        Next::Is(step) => match step {
+            Step::Program(_, _) => {}
+            Step::Erase(at) => bench::wipe(image, at, k),
+        },
+    }
+}
+
+// A command cut after some steps, and so many bytes into the erase that may come next.
+fn cut(image: &mut [u8], command: Command, steps: usize, k: usize) {
+    let begun = bench::begin(image, quarry(), command);
+    let job = begun.job;
+    let ran = jobs::run(job, image, steps);
+    let left = ran.job;
+    wipe_next(image, jobs::next_step(left), k);
+    printing::print_command(command);
+    printing::print_cut(steps, k);
+}
+
+fn print_order(image: &[u8]) {
+    printing::print_order(image, quarry());
+}
+
+fn print_place(image: &[u8], place: usize) {
+    io::write_all(STDOUT_FILENO, b"CPB0 ");
+    printing::print_place(image, CPB0, place);
+    io::write_all(STDOUT_FILENO, b"CPB1 ");
+    printing::print_place(image, CPB1, place);
+}
+
+// ---- the cases
+
+fn enable_first(image: &mut [u8]) {
+    print_order(image);
+    finish(image, Command::Enable(SlotNo(1)));
+}
+
+fn enable_third(image: &mut [u8], place: usize) {
+    finish(image, Command::Enable(SlotNo(2)));
+    print_place(image, place);
+    print_order(image);
+}
+
+fn enable_then_disable(image: &mut [u8]) {
+    finish(image, Command::Enable(SlotNo(0)));
+    print_place(image, 2);
+    print_order(image);
+    finish(image, Command::Disable(SlotNo(0)));
+    print_order(image);
+}
+
+fn refused_slots(image: &mut [u8]) {
+    finish(image, Command::Disable(SlotNo(2)));
+    finish(image, Command::Enable(SlotNo(3)));
+    finish(image, Command::Disable(SlotNo(3)));
+}
+
+fn cut_then_repaired(image: &mut [u8]) {
+    cut(image, Command::Enable(SlotNo(2)), 15, 0);
+    print_place(image, 2);
+    print_order(image);
+    finish(image, Command::Repair);
+    enable_third(image, 3);
+}
+
+fn rewrite_cut(image: &mut [u8], k: usize) {
+    cut(image, Command::Enable(SlotNo(2)), 4097, k);
+    print_order(image);
+}
+
+fn names(image: &mut [u8]) {
+    finish_rename(image, b"fifteen_bytes_x");
+    finish_rename(image, b"sixteen_bytes_xx");
+    print_order(image);
+}
+
+// ---- which case on which image
+
+enum Case {
+    EnableFirst,
+    EnableThird(usize),
+    EnableThenDisable,
+    RefusedSlots,
+    CutThenRepaired,
+    RewriteCut(usize),
+    Disable(SlotNo),
+    Names,
+    OrderOnly,
+}
+
+fn run_case(case: Case, image: &mut [u8]) {
+    match case {
+        Case::EnableFirst => enable_first(image),
+        Case::EnableThird(place) => enable_third(image, place),
+        Case::EnableThenDisable => enable_then_disable(image),
+        Case::RefusedSlots => refused_slots(image),
+        Case::CutThenRepaired => cut_then_repaired(image),
+        Case::RewriteCut(k) => rewrite_cut(image, k),
+        Case::Disable(slot) => finish(image, Command::Disable(slot)),
+        Case::Names => names(image),
+        Case::OrderOnly => print_order(image),
+    }
+}
+
+fn on_image(title: &[u8], path: &[u8], case: Case) {
+    io::write_all(STDOUT_FILENO, title);
+    let mut image = image_buffer();
+    let fd = os::open_read(path);
+    let n = io::read_full(fd, &mut image);
+    libc::close(fd);
+    run_case(case, &mut image[..n]);
+}
+
+fn main() {
+    on_image(b"cases 1 and 3\n", b"quarry.img", Case::EnableFirst);
+    on_image(b"case 2\n", b"quarry.img", Case::EnableThird(2));
+    on_image(b"case 4\n", b"quarry.img", Case::EnableThenDisable);
+    on_image(b"case 5\n", b"quarry.img", Case::RefusedSlots);
+    on_image(b"case 6\n", b"quarry.img", Case::CutThenRepaired);
+    on_image(
+        b"case 7, highest used place 506\n",
+        b"highest_506.img",
+        Case::EnableThird(507),
+    );
+    on_image(
+        b"case 7, highest used place 507\n",
+        b"highest_507.img",
+        Case::EnableThird(507),
+    );
+    on_image(
+        b"case 8, after 4,097 steps\n",
+        b"highest_507.img",
+        Case::RewriteCut(0),
+    );
+    on_image(
+        b"case 8, inside step 4,098\n",
+        b"highest_507.img",
+        Case::RewriteCut(1),
+    );
+    on_image(b"case 9, slot 0\n", b"moved.img", Case::Disable(SlotNo(0)));
+    on_image(b"case 9, slot 1\n", b"moved.img", Case::Disable(SlotNo(1)));
+    on_image(b"case 10, names\n", b"quarry.img", Case::Names);
+    on_image(
+        b"case 10, 127 entries\n",
+        b"entries_127.img",
+        Case::OrderOnly,
+    );
+    on_image(
+        b"case 10, 128 entries\n",
+        b"entries_128.img",
+        Case::OrderOnly,
+    );
+    on_image(b"case 10, 0 bytes\n", b"no_bytes.img", Case::OrderOnly);
+}
