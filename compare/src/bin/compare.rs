@@ -1,0 +1,111 @@
+//! Compares a `replay` program with the independent implementation, and stores scripts for it.
+
+use std::env;
+use std::fs;
+use std::path::Path;
+use std::process::ExitCode;
+use std::time::Instant;
+
+use compare::comparison::{self, Disagreement, Settings};
+use compare::document::shortcut::Shortcut;
+use compare::{speed, stored};
+
+const USAGE: &str = "\
+compare run REPLAY [--seed N] [--commands N] [--fault 1..5]
+    compares the program REPLAY with the independent implementation; with --fault, one of
+    document 01's shortcuts is planted in the latter, and the two must disagree
+compare store DIRECTORY [--seed N]
+    writes scripts to DIRECTORY/stdin and what they print to DIRECTORY/stdout
+compare speed
+    measures order lists, starts and runs";
+
+/// Every refusal and every kind of job is tried at least this often.
+const LEAST: u64 = 100;
+
+fn main() -> ExitCode {
+    let arguments: Vec<String> = env::args().skip(1).collect();
+    let words: Vec<&str> = arguments.iter().map(String::as_str).collect();
+    let done = match words.as_slice() {
+        ["run", replay, options @ ..] => run(replay, options),
+        ["store", directory, options @ ..] => store(Path::new(directory), options),
+        ["speed"] => {
+            speed::measure();
+            Ok(true)
+        }
+        _ => Err(USAGE.to_string()),
+    };
+    match done {
+        Ok(true) => ExitCode::SUCCESS,
+        Ok(false) => ExitCode::FAILURE,
+        Err(message) => {
+            eprintln!("{message}");
+            ExitCode::from(2)
+        }
+    }
+}
+
+/// The number after an option, or its default.
+fn option(options: &[&str], name: &str, default: u64) -> Result<u64, String> {
+    let Some(at) = options.iter().position(|&word| word == name) else {
+        return Ok(default);
+    };
+    let number = options.get(at + 1).and_then(|word| word.parse().ok());
+    number.ok_or_else(|| format!("{name} wants a number"))
+}
+
+fn run(replay: &str, options: &[&str]) -> Result<bool, String> {
+    let fault = option(options, "--fault", 0)?;
+    let shortcut = Shortcut::numbered(fault as usize);
+    if fault != 0 && shortcut.is_none() {
+        return Err("--fault wants a number from 1 to 5".to_string());
+    }
+    let settings = Settings {
+        replay: replay.into(),
+        seed: option(options, "--seed", 1)?,
+        commands: option(options, "--commands", 200_000)?,
+        shortcut,
+    };
+    let began = Instant::now();
+    let report = comparison::compare(&settings).map_err(|error| format!("{replay}: {error}"))?;
+    println!("{}", report.tally);
+    println!("{} lines compared in {:.1} s", report.lines_compared, began.elapsed().as_secs_f64());
+    if let Some(first) = &report.first {
+        print_disagreement(first)?;
+    }
+    println!("{} scripts disagree", report.scripts_disagreeing);
+    let agree = report.scripts_disagreeing == 0;
+    if let Some(shortcut) = shortcut {
+        println!("planted: {shortcut:?}; {}", if agree { "NOT NOTICED" } else { "noticed" });
+        return Ok(!agree);
+    }
+    let enough = report.tally.least() >= LEAST && report.tally.accepted() >= report.tally.refused();
+    if !enough {
+        println!("too few: each refusal and kind of job {LEAST} times, half accepted");
+    }
+    Ok(agree && enough && report.tally.book_broken == 0)
+}
+
+fn print_disagreement(first: &Disagreement) -> Result<(), String> {
+    let kept = env::temp_dir().join("compare-disagreement.txt");
+    fs::write(&kept, comparison::concatenated(std::slice::from_ref(&first.script)))
+        .map_err(|error| format!("{}: {error}", kept.display()))?;
+    println!("first disagreement, in the script {}", kept.display());
+    println!("  line {}: {}", first.line, first.script.lines[first.line - 1]);
+    println!("  expected: {}", first.expected);
+    println!("  printed:  {}", first.printed.as_deref().unwrap_or("(nothing)"));
+    Ok(())
+}
+
+fn store(directory: &Path, options: &[&str]) -> Result<bool, String> {
+    let (scripts, tally) = stored::stored_scripts(option(options, "--seed", 1)?);
+    let printed = comparison::expected(&scripts).into_iter().flatten();
+    let printed: String = printed.flat_map(|(_, text)| [text, "\n".to_string()]).collect();
+    let write = |name: &str, text: &str| {
+        let path = directory.join(name);
+        fs::write(&path, text).map_err(|error| format!("{}: {error}", path.display()))
+    };
+    write("stdin", &comparison::concatenated(&scripts))?;
+    write("stdout", &printed)?;
+    println!("{tally}");
+    Ok(tally.least() > 0)
+}

@@ -1,0 +1,253 @@
+//! Scripts on images that are damaged, told of wrongly, or changed under a running job.
+
+use crate::cases::arguments::{
+    any_command, random_budget, random_command, random_cut, random_slot,
+};
+use crate::cases::damage::{pointer_damage, table_damage, Damage};
+use crate::cases::flash::Flash;
+use crate::cases::history::write_history;
+use crate::cases::layout::random_flash;
+use crate::cases::random::Random;
+use crate::cases::script::Writer;
+use crate::document::image::BLOCK_BYTES;
+use crate::document::steps::Step;
+use crate::replay::{hex, Answer, IMAGE_BYTES_MAX};
+
+/// Writes one script of a random kind.
+pub fn write_script(random: &mut Random, writer: &mut Writer) {
+    match random.below(100) {
+        0..=48 => {
+            let items = random.between(6, 16);
+            write_history(random, writer, items);
+        }
+        49..=79 => write_damaged(random, writer),
+        80..=86 => write_wrong_geometry(random, writer),
+        87..=92 => write_wrong_length(random, writer),
+        93..=96 => write_other_writer(random, writer),
+        _ => write_dumps(random, writer),
+    }
+}
+
+/// One or two damaged copies, then every reader and every command.
+fn write_damaged(random: &mut Random, writer: &mut Writer) {
+    let flash = random_flash(random);
+    writer.build(&flash);
+    let rounds = random.pick(&[1, 2]);
+    for _ in 0..rounds {
+        damage_some(random, writer, &flash);
+        write_everything(random, writer);
+    }
+}
+
+fn damage_some(random: &mut Random, writer: &mut Writer, flash: &Flash) {
+    let (tables, pointers) = (flash.table_addresses(), flash.pointer_addresses());
+    let damaged_tables = random.percent(65);
+    if damaged_tables {
+        let damage = table_damage(random, flash);
+        let second = random.percent(20).then(|| table_damage(random, flash));
+        damage_pair(random, writer, tables, damage, second);
+    }
+    if !damaged_tables || random.percent(50) {
+        let damage = pointer_damage(random, flash);
+        let second = random.percent(40).then(|| pointer_damage(random, flash));
+        damage_pair(random, writer, pointers, damage, second);
+    }
+}
+
+/// Stores damage in one copy, and in the other the same, other damage or none.
+fn damage_pair(
+    random: &mut Random,
+    writer: &mut Writer,
+    addresses: [u64; 2],
+    damage: Damage,
+    second: Option<Damage>,
+) {
+    let copy = random.index(2);
+    store(writer, addresses[copy], &damage);
+    match second {
+        Some(second) => store(writer, addresses[1 - copy], &second),
+        None if random.percent(60) => store(writer, addresses[1 - copy], &damage),
+        None => {}
+    }
+}
+
+fn store(writer: &mut Writer, address: u64, damage: &Damage) {
+    for (offset, bytes) in damage {
+        writer.line(format!("put {} {}", address + *offset as u64, hex(bytes)));
+    }
+}
+
+/// Every reader, some commands with their jobs run or cut, and the readers again.
+fn write_everything(random: &mut Random, writer: &mut Writer) {
+    writer.line("order");
+    let slot = random_slot(random, 4);
+    writer.line(format!("slot {slot}"));
+    let commands = random.between(2, 5);
+    for _ in 0..commands {
+        let command = random_command(random, &writer.session);
+        if let Answer::Job(steps) = writer.start(&command) {
+            write_runs(random, writer, steps);
+        }
+    }
+    writer.line("order");
+    writer.line("sum");
+}
+
+fn write_runs(random: &mut Random, writer: &mut Writer, steps: usize) {
+    if steps > 0 && random.percent(25) {
+        let job = writer.session.job.as_ref().expect("the job just started");
+        let (steps, inside) = random_cut(random, job);
+        writer.cut(steps, inside);
+        return;
+    }
+    let budget = random_budget(random, steps);
+    writer.line(format!("run {budget}"));
+    if random.percent(60) {
+        writer.line(format!("run {}", u64::MAX));
+    }
+}
+
+/// A granule or table addresses that are not those of the image.
+fn write_wrong_geometry(random: &mut Random, writer: &mut Writer) {
+    let flash = random_flash(random);
+    writer.build(&flash);
+    for _ in 0..3 {
+        let (granule, [first, second]) = wrong_geometry(random, &flash);
+        writer.line(format!("box {granule} {first} {second}"));
+        write_everything(random, writer);
+    }
+}
+
+fn wrong_geometry(random: &mut Random, flash: &Flash) -> (u64, [u64; 2]) {
+    let [first, second] = flash.table_addresses();
+    let granule = flash.granule;
+    let length = flash.image_length as u64;
+    let number = random.number();
+    let granules = [0, 1, 2048, 4095, 4097, 8192, 16_384, 131_072, 1 << 32 | granule, number];
+    let other_granules = [4096, 32_768, 65_536];
+    let addresses = [
+        first,
+        first + 1,
+        first + 4096,
+        first + granule,
+        0,
+        length,
+        length - 4096,
+        length.saturating_sub(granule),
+        1 << 63,
+        1 << 32 | first,
+        u64::MAX,
+        u64::MAX - 4095,
+        u64::MAX - granule + 1,
+        number,
+    ];
+    match random.below(6) {
+        0 => (random.pick(&granules), [first, second]),
+        1 => (random.pick(&other_granules), [first, second]),
+        2 => (granule, [random.pick(&addresses), second]),
+        3 => (granule, [first, random.pick(&addresses)]),
+        4 => (granule, [first, first]),
+        _ => (granule, [second, first]),
+    }
+}
+
+/// Another image length, before a command and under its job.
+fn write_wrong_length(random: &mut Random, writer: &mut Writer) {
+    let flash = random_flash(random);
+    writer.build(&flash);
+    let length = flash.image_length as u64;
+    for _ in 0..3 {
+        let other = other_length(random, length);
+        let command = random_command(random, &writer.session);
+        if let Answer::Job(steps) = writer.start(&command) {
+            if random.percent(50) {
+                let budget = random_budget(random, steps);
+                writer.line(format!("run {budget}"));
+            }
+            writer.line(format!("length {other}"));
+            let budget = random_budget(random, steps);
+            writer.line(format!("run {budget}"));
+            writer.line(format!("length {length}"));
+            writer.line(format!("run {}", u64::MAX));
+        }
+        writer.line("order");
+        writer.line("sum");
+    }
+    let other = other_length(random, length);
+    writer.line(format!("length {other}"));
+    writer.line("order");
+    writer.line("slot 0");
+    for _ in 0..4 {
+        let command = any_command(random);
+        writer.start(&command);
+    }
+    writer.line("sum");
+}
+
+fn other_length(random: &mut Random, length: u64) -> u64 {
+    let lengths = [
+        0,
+        1,
+        4095,
+        4096,
+        length - 4096,
+        length - 1,
+        length + 1,
+        length + 4096,
+        IMAGE_BYTES_MAX,
+        IMAGE_BYTES_MAX - 1,
+        random.below(IMAGE_BYTES_MAX),
+    ];
+    random.pick(&lengths).min(IMAGE_BYTES_MAX)
+}
+
+/// Bytes stored under a job where its steps will program: only these show `old AND given`.
+fn write_other_writer(random: &mut Random, writer: &mut Writer) {
+    let flash = random_flash(random);
+    writer.build(&flash);
+    for _ in 0..4 {
+        let command = random_command(random, &writer.session);
+        let Answer::Job(steps) = writer.start(&command) else {
+            continue;
+        };
+        if steps > 0 {
+            let budget = random.pick(&[0, 1, 2, steps / 2 + 1]);
+            writer.line(format!("run {budget}"));
+        }
+        let job = writer.session.job.as_ref().expect("the job just started");
+        let steps = random.pick(&[1, 8, 40]);
+        let step = random.index(steps);
+        if let Some(Step::Program { address, .. } | Step::Erase { address }) = job.step_after(step)
+        {
+            writer.line(format!("put {address} {}", hex(&random.bytes(1))));
+        }
+        writer.line(format!("run {}", u64::MAX));
+        writer.line("sum");
+        writer.line("order");
+    }
+}
+
+/// Pairs of dumps: whole, damaged, too short, too long, empty.
+fn write_dumps(random: &mut Random, writer: &mut Writer) {
+    let flash = random_flash(random);
+    writer.build(&flash);
+    let pointers = flash.pointer_addresses();
+    for address in pointers {
+        if random.percent(40) {
+            let damage = pointer_damage(random, &flash);
+            store(writer, address, &damage);
+        }
+    }
+    for _ in 0..6 {
+        let parts = [0, 1].map(|_| {
+            let address =
+                random.pick(&[pointers[0], pointers[1], pointers[0], flash.start_of("SPT0")]);
+            let block = BLOCK_BYTES as u64;
+            let length = random.weighted(&[(60, block), (10, block - 1), (10, 0), (10, 32)]);
+            (address, length)
+        });
+        let [(first, first_length), (second, second_length)] = parts;
+        writer.line(format!("dumps {first} {first_length} {second} {second_length}"));
+    }
+    writer.line("order");
+}

@@ -1,0 +1,70 @@
+//! The configuration pointer block: when a copy stands, its places, the boot order, two dumps.
+
+use crate::document::image::{u32_at, u64_at, BLOCK_BYTES};
+
+pub const MAGIC: u32 = 0x5778_9609;
+pub const HEADER_SIZE: u32 = 0x18;
+pub const PLACES_OFFSET: usize = 0x20;
+pub const PLACES: usize = 508;
+pub const PLACE_BYTES: usize = 8;
+/// The value of an erased place.
+pub const ERASED_PLACE: u64 = u64::MAX;
+
+/// Whether these bytes are a pointer block that stands.
+pub fn stands(block: &[u8]) -> bool {
+    block.len() == BLOCK_BYTES
+        && u32_at(block, 0x00) == MAGIC
+        && u32_at(block, 0x04) == HEADER_SIZE
+        && u32_at(block, 0x08) == BLOCK_BYTES as u32
+        && u32_at(block, 0x10) == PLACES_OFFSET as u32
+        && u32_at(block, 0x14) == PLACES as u32
+}
+
+/// The dump that stands, the first if both do; an empty part of the first if neither does.
+pub fn standing_dump<'a>(first: &'a [u8], second: &'a [u8]) -> &'a [u8] {
+    if stands(first) {
+        first
+    } else if stands(second) {
+        second
+    } else {
+        &first[..0]
+    }
+}
+
+/// The offset of a place in its block.
+pub fn place_offset(place: usize) -> usize {
+    PLACES_OFFSET + PLACE_BYTES * place
+}
+
+/// The values of all places, from place 0 up.
+pub fn places(block: &[u8]) -> impl DoubleEndedIterator<Item = u64> + ExactSizeIterator + '_ {
+    block[PLACES_OFFSET..].chunks_exact(PLACE_BYTES).map(|bytes| u64_at(bytes, 0))
+}
+
+/// The slots in boot order, for slots with these starts.
+pub fn boot_order(block: &[u8], starts: &[u64]) -> Vec<u32> {
+    let mut order = Vec::with_capacity(starts.len());
+    let mut met = vec![false; starts.len()];
+    for value in places(block).rev().filter(|&value| value != ERASED_PLACE) {
+        if let Some(slot) = starts.iter().position(|&start| start == value) {
+            if !met[slot] {
+                met[slot] = true;
+                order.push(slot as u32);
+            }
+        }
+    }
+    order
+}
+
+/// The lowest place such that it and all above are erased.
+pub fn free_place(block: &[u8]) -> Option<usize> {
+    let used = places(block).rposition(|value| value != ERASED_PLACE);
+    let free = used.map_or(0, |place| place + 1);
+    (free < PLACES).then_some(free)
+}
+
+/// The places that hold this value, lowest first.
+pub fn places_holding(block: &[u8], value: u64) -> Vec<usize> {
+    let holding = places(block).enumerate().filter(|&(_, held)| held == value);
+    holding.map(|(place, _)| place).collect()
+}

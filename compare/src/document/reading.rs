@@ -1,0 +1,90 @@
+//! Which copies are read, whether the pairs agree, and what a reader is told of them.
+
+use crate::document::image::{block_at, Geometry};
+use crate::document::pointers;
+use crate::document::refusal::Refusal;
+use crate::document::table::{Entry, Table};
+
+/// A flash that can be read: the copies read and where all four blocks are.
+pub struct View<'a> {
+    pub image: &'a [u8],
+    pub table: Table,
+    pub table_addresses: [usize; 2],
+    /// Number of the table copy read.
+    pub table_copy: usize,
+    /// Number of the pointer block copy read.
+    pub pointer_copy: usize,
+}
+
+/// The table copy read and the boot order, which is what the book of demand 3 is about.
+#[derive(Clone, Debug, PartialEq, Eq)]
+pub struct Reading {
+    pub table: Vec<u8>,
+    pub order: Vec<u32>,
+}
+
+impl<'a> View<'a> {
+    /// Refusals 1 to 5.
+    pub fn of(image: &'a [u8], geometry: &Geometry) -> Result<View<'a>, Refusal> {
+        let image_length = image.len() as u64;
+        geometry.check(image_length)?;
+        let table_addresses = geometry.table_addresses.map(|address| address as usize);
+        let standing = |copy: usize| {
+            let block = block_at(image, table_addresses[copy]);
+            Some((copy, Table::standing(block, image_length, geometry)?))
+        };
+        let (table_copy, table) =
+            standing(0).or_else(|| standing(1)).ok_or(Refusal::NoTableStands)?;
+        let pointer_copy = (0..2)
+            .find(|&copy| pointers::stands(block_at(image, table.pointer_addresses[copy])))
+            .ok_or(Refusal::NoPointerBlockStands)?;
+        Ok(View { image, table, table_addresses, table_copy, pointer_copy })
+    }
+
+    pub fn table_bytes(&self) -> &'a [u8] {
+        block_at(self.image, self.table_addresses[self.table_copy])
+    }
+
+    pub fn pointer_bytes(&self) -> &'a [u8] {
+        block_at(self.image, self.table.pointer_addresses[self.pointer_copy])
+    }
+
+    pub fn order(&self) -> Vec<u32> {
+        pointers::boot_order(self.pointer_bytes(), &self.table.starts)
+    }
+
+    pub fn reading(&self) -> Reading {
+        Reading { table: self.table_bytes().to_vec(), order: self.order() }
+    }
+
+    /// Whether the table copies agree. Standing depends on the bytes alone, and the copy read
+    /// stands, so that equal bytes are enough.
+    pub fn tables_agree(&self) -> bool {
+        self.equal(self.table_addresses)
+    }
+
+    /// Whether the pointer block copies agree.
+    pub fn pointers_agree(&self) -> bool {
+        self.equal(self.table.pointer_addresses)
+    }
+
+    fn equal(&self, addresses: [usize; 2]) -> bool {
+        let [first, second] = addresses.map(|address| block_at(self.image, address));
+        first == second
+    }
+}
+
+/// The order list: writes the slot numbers into the front of the row and returns their count.
+pub fn order_list(image: &[u8], geometry: &Geometry, row: &mut [u32]) -> Result<usize, Refusal> {
+    let order = View::of(image, geometry)?.order();
+    let front = row.get_mut(..order.len()).ok_or(Refusal::RowTooShort)?;
+    front.copy_from_slice(&order);
+    Ok(order.len())
+}
+
+/// Entry number and entry of a slot.
+pub fn slot_facts(image: &[u8], geometry: &Geometry, slot: u32) -> Result<(usize, Entry), Refusal> {
+    let table = View::of(image, geometry)?.table;
+    let number = *table.slots.get(slot as usize).ok_or(Refusal::NoSuchSlot)?;
+    Ok((number, table.entries[number]))
+}

@@ -1,0 +1,8 @@
+//! Document 01 written a second time, independently of the updater, to compare the updater with.
+
+pub mod cases;
+pub mod comparison;
+pub mod document;
+pub mod replay;
+pub mod speed;
+pub mod stored;

@@ -1,0 +1,137 @@
+//! The updater's static library behind the same trait. The C declarations below follow the
+//! library's header, link/c/delunkpawi.h. Every function returns 0 or a refusal number.
+
+use super::Updater;
+use crate::document::commands::Command;
+use crate::document::image::Geometry;
+
+extern "C" {
+    fn delunkpawi_order(
+        image: *const u8,
+        image_length: usize,
+        granule: usize,
+        spt0: usize,
+        spt1: usize,
+        row: *mut u32,
+        row_length: usize,
+        count: *mut usize,
+    ) -> u8;
+    fn delunkpawi_enable(
+        image: *const u8,
+        image_length: usize,
+        granule: usize,
+        spt0: usize,
+        spt1: usize,
+        slot: u32,
+        job: *mut u8,
+        job_length: usize,
+    ) -> u8;
+    fn delunkpawi_disable(
+        image: *const u8,
+        image_length: usize,
+        granule: usize,
+        spt0: usize,
+        spt1: usize,
+        slot: u32,
+        job: *mut u8,
+        job_length: usize,
+    ) -> u8;
+    fn delunkpawi_rename(
+        image: *const u8,
+        image_length: usize,
+        granule: usize,
+        spt0: usize,
+        spt1: usize,
+        slot: u32,
+        name: *const u8,
+        name_length: usize,
+        job: *mut u8,
+        job_length: usize,
+    ) -> u8;
+    fn delunkpawi_repair(
+        image: *const u8,
+        image_length: usize,
+        granule: usize,
+        spt0: usize,
+        spt1: usize,
+        job: *mut u8,
+        job_length: usize,
+    ) -> u8;
+    fn delunkpawi_run(
+        job: *mut u8,
+        job_length: usize,
+        image: *mut u8,
+        image_length: usize,
+        budget: usize,
+        done: *mut usize,
+    ) -> u8;
+    fn delunkpawi_job_size() -> usize;
+}
+
+pub struct Linked;
+
+fn unless_refused<T>(number: u8, answer: T) -> Result<T, u32> {
+    if number == 0 {
+        Ok(answer)
+    } else {
+        Err(u32::from(number))
+    }
+}
+
+/// Granule and table addresses as the header has them.
+fn setting(geometry: &Geometry) -> (usize, usize, usize) {
+    let Geometry { granule, table_addresses: [spt0, spt1] } = *geometry;
+    (granule as usize, spt0 as usize, spt1 as usize)
+}
+
+impl Updater for Linked {
+    type Job = Vec<u8>;
+
+    fn order_list(image: &[u8], geometry: &Geometry, row: &mut [u32]) -> Result<usize, u32> {
+        let (granule, spt0, spt1) = setting(geometry);
+        let (at, length) = (image.as_ptr(), image.len());
+        let mut count = 0;
+        // SAFETY: image and row are lent for the call, with their lengths.
+        let refused = unsafe {
+            let (row, row_length) = (row.as_mut_ptr(), row.len());
+            delunkpawi_order(at, length, granule, spt0, spt1, row, row_length, &mut count)
+        };
+        unless_refused(refused, count)
+    }
+
+    fn start(image: &[u8], geometry: &Geometry, command: &Command) -> Result<Vec<u8>, u32> {
+        let (granule, spt0, spt1) = setting(geometry);
+        let (at, length) = (image.as_ptr(), image.len());
+        // SAFETY: image, name and the job's buffer are lent for the call, with their lengths.
+        unsafe {
+            let mut buffer = vec![0; delunkpawi_job_size()];
+            let (job, size) = (buffer.as_mut_ptr(), buffer.len());
+            let refused = match command {
+                Command::Enable(slot) => {
+                    delunkpawi_enable(at, length, granule, spt0, spt1, *slot, job, size)
+                }
+                Command::Disable(slot) => {
+                    delunkpawi_disable(at, length, granule, spt0, spt1, *slot, job, size)
+                }
+                Command::Rename(slot, name) => {
+                    let (name, bytes) = (name.as_ptr(), name.len());
+                    delunkpawi_rename(
+                        at, length, granule, spt0, spt1, *slot, name, bytes, job, size,
+                    )
+                }
+                Command::Repair => delunkpawi_repair(at, length, granule, spt0, spt1, job, size),
+            };
+            unless_refused(refused, buffer)
+        }
+    }
+
+    fn run(job: &mut Vec<u8>, image: &mut [u8], budget: u64) -> Result<u64, u32> {
+        let mut done = 0;
+        let (at, length) = (image.as_mut_ptr(), image.len());
+        // SAFETY: the job's buffer and the image are lent for the call, with their lengths.
+        let refused = unsafe {
+            delunkpawi_run(job.as_mut_ptr(), job.len(), at, length, budget as usize, &mut done)
+        };
+        unless_refused(refused, done as u64)
+    }
+}

@@ -1,0 +1,24 @@
+//! How long readers, starts and runs take, for each implementation on the same inputs.
+
+mod bench;
+mod independent;
+#[cfg(feature = "linked")]
+mod linked;
+
+pub use bench::measure;
+
+use crate::document::commands::Command;
+use crate::document::image::Geometry;
+
+/// What is measured of an implementation. Refusals are document 01's numbers.
+pub trait Updater {
+    type Job: Clone;
+
+    /// Writes the boot order into the front of the row and returns its length.
+    fn order_list(image: &[u8], geometry: &Geometry, row: &mut [u32]) -> Result<usize, u32>;
+
+    fn start(image: &[u8], geometry: &Geometry, command: &Command) -> Result<Self::Job, u32>;
+
+    /// Runs a job within a budget and returns the number of steps done.
+    fn run(job: &mut Self::Job, image: &mut [u8], budget: u64) -> Result<u64, u32>;
+}

@@ -1,0 +1,115 @@
+// Lines that change the image or the setting. The image lies at the front of its room.
+use super::bounds::least;
+use super::desk;
+use super::desk::Desk;
+use super::desk::Setting;
+use script::Change;
+ghost use Prim.Native.Nat.{_+_, _≤_};
+ghost use lib.ListN.{length};
+
+pub const ERASED: u8 = 0xFF;
+
+pub fn change(desk: Desk, room: &mut [u8], asked: Change, line: &[u8]) -> Desk {
+    match asked {
+        Change::Image(length, byte) => new_image(desk, room, length, byte),
+        Change::Length(length) => new_length(desk, room, length),
+        Change::Setting(granule, spt0, spt1) => new_setting(desk, granule, spt0, spt1),
+        Change::Put(address) => put(desk, room, address, script::last_word(line)),
+        Change::Copy(from, to, n) => copy(desk, room, from, to, n),
+    }
+}
+
+fn with_length(desk: Desk, length: usize) -> Desk {
+    let mut setting = desk.setting;
+    setting.length = length;
+    desk::with_setting(desk, setting)
+}
+
+pub fn fill(bytes: &mut [u8], byte: u8) {
+    let mut i = 0;
+    while i < bytes.len() {
+        bytes[i] = byte;
+        i += 1;
+    }
+}
+
+fn new_image(desk: Desk, room: &mut [u8], length: usize, byte: u8) -> Desk {
+    if room.len() < length {
+        return desk::error(desk);
+    }
+    fill(&mut room[0..length], byte);
+    desk::without_job(with_length(desk, length))
+}
+
+fn new_length(desk: Desk, room: &mut [u8], length: usize) -> Desk {
+    if room.len() < length {
+        return desk::error(desk);
+    }
+    let kept = least(desk.setting.length, length);
+    fill(&mut room[kept..length], ERASED);
+    with_length(desk, length)
+}
+
+fn new_setting(desk: Desk, granule: usize, spt0: usize, spt1: usize) -> Desk {
+    let setting = Setting {
+        length: desk.setting.length,
+        granule,
+        spt0,
+        spt1,
+    };
+    desk::with_setting(desk, setting)
+}
+
+fn put(desk: Desk, room: &mut [u8], at: usize, word: &[u8]) -> Desk {
+    let length = least(desk.setting.length, room.len());
+    let n = word.len() / 2;
+    if length < at {
+        return desk::error(desk);
+    }
+    if length - at < n {
+        return desk::error(desk);
+    }
+    script::hex::decode(word, &mut room[at..at + n]);
+    desk
+}
+
+fn copy(desk: Desk, room: &mut [u8], from: usize, to: usize, n: usize) -> Desk {
+    let length = least(desk.setting.length, room.len());
+    if length < n {
+        return desk::error(desk);
+    }
+    if length - n < from {
+        return desk::error(desk);
+    }
+    if length - n < to {
+        return desk::error(desk);
+    }
+    if to <= from {
+        copy_upward(room, from, to, n);
+    } else {
+        copy_downward(room, from, to, n);
+    }
+    desk
+}
+
+// Lowest byte first, which reads each byte before it is stored to where the target is lower.
+fn copy_upward(room: &mut [u8], from: usize, to: usize, n: usize)
+    requires { ⌜ (from + n ≤ length (now room)) × (to + n ≤ length (now room)) ⌝ }
+{
+    let mut i = 0;
+    while i < n {
+        room[to + i] = room[from + i];
+        i += 1;
+    }
+}
+
+// Highest byte first, where the target is higher.
+fn copy_downward(room: &mut [u8], from: usize, to: usize, n: usize)
+    requires { ⌜ (from + n ≤ length (now room)) × (to + n ≤ length (now room)) ⌝ }
+{
+    let mut i = n;
+    while 0 < i {
+        i -= 1;
+        room[to + i] = room[from + i];
+    }
+}

@@ -1,0 +1,108 @@
+// What a script works on, beside the image: the setting, the current job, and where in the script it is.
+use super::printing;
+use jobs::Job;
+use jobs::Kind;
+use jobs::Plan;
+
+// The image's length, the granule and the addresses of the tables.
+pub struct Setting {
+    pub length: usize,
+    pub granule: usize,
+    pub spt0: usize,
+    pub spt1: usize,
+}
+
+// `busy`: there is a current job. `line`: the number of the line. `used`: how many of its bytes are read.
+pub struct Desk {
+    pub setting: Setting,
+    pub busy: bool,
+    pub job: Job,
+    pub line: u64,
+    pub used: usize,
+    pub ended: bool,
+}
+
+// A job of no steps, where there is none.
+fn no_job() -> Job {
+    Job {
+        plan: Plan {
+            len: 0,
+            granule: 0,
+            offset: 0,
+            first: Kind::Nothing,
+            at: 0,
+            second: Kind::Nothing,
+            after: 0,
+            count: 0,
+        },
+        done: 0,
+        first: [0; 4096],
+        second: [0; 4096],
+        places: [0; 508],
+        value: [0; 8],
+    }
+}
+
+pub fn new_desk() -> Desk {
+    let job = no_job();
+    Desk {
+        setting: Setting {
+            length: 0,
+            granule: 0,
+            spt0: 0,
+            spt1: 0,
+        },
+        busy: false,
+        job,
+        line: 1,
+        used: 0,
+        ended: false,
+    }
+}
+
+pub fn with_setting(desk: Desk, setting: Setting) -> Desk {
+    let mut next = desk;
+    next.setting = setting;
+    next
+}
+
+pub fn with_job(desk: Desk, job: Job) -> Desk {
+    let mut next = desk;
+    next.busy = true;
+    next.job = job;
+    next
+}
+
+pub fn without_job(desk: Desk) -> Desk {
+    let mut next = desk;
+    next.busy = false;
+    next
+}
+
+pub fn with_used(desk: Desk, used: usize) -> Desk {
+    let mut next = desk;
+    next.used = used;
+    next
+}
+
+// The last number is never passed.
+pub fn next_line(desk: Desk) -> Desk {
+    let mut next = desk;
+    next.used = 0;
+    if desk.line < u64::MAX {
+        next.line = desk.line + 1;
+    }
+    next
+}
+
+pub fn end(desk: Desk) -> Desk {
+    let mut next = desk;
+    next.ended = true;
+    next
+}
+
+// Ends the script at a line that is no line, or that asks for what is not there.
+pub fn error(desk: Desk) -> Desk {
+    printing::print_number(b"error", desk.line);
+    end(desk)
+}

@@ -1,0 +1,72 @@
+// Lines that start a job, which becomes the current one.
+use super::bounds::least;
+use super::desk;
+use super::desk::Desk;
+use super::desk::Setting;
+use super::printing;
+use commands::Begun;
+use commands::Outcome;
+use rules::SlotNo;
+use script::Command;
+
+pub fn start(desk: Desk, room: &[u8], asked: Command, line: &[u8]) -> Desk {
+    let setting = desk.setting;
+    let length = least(setting.length, room.len());
+    let begun = begin(setting, &room[0..length], asked, line);
+    let outcome = begun.answer;
+    match outcome {
+        Outcome::Refused(number) => {
+            printing::print_number(b"refused", number as u64);
+            desk::without_job(desk)
+        }
+        Outcome::Started => {
+            let job = begun.job;
+            printing::print_number(b"job", jobs::remaining(job) as u64);
+            desk::with_job(desk, job)
+        }
+    }
+}
+
+fn begin(setting: Setting, image: &[u8], asked: Command, line: &[u8]) -> Begun {
+    let granule = setting.granule;
+    let spt0 = setting.spt0;
+    let spt1 = setting.spt1;
+    match asked {
+        Command::Enable(slot) => commands::start_enable(image, granule, spt0, spt1, SlotNo(slot)),
+        Command::Disable(slot) => commands::start_disable(image, granule, spt0, spt1, SlotNo(slot)),
+        Command::Rename(slot) => begin_rename(setting, image, slot, script::last_word(line)),
+        Command::RenameToNothing(slot) => {
+            commands::start_rename(image, granule, spt0, spt1, SlotNo(slot), b"")
+        }
+        Command::Repair => commands::start_repair(image, granule, spt0, spt1),
+    }
+}
+
+// Room for the bytes of a name: a line has fewer pairs of digits.
+fn name_room() -> [u8; 8192] {
+    [0; 8192]
+}
+
+fn begin_rename(setting: Setting, image: &[u8], slot: u32, word: &[u8]) -> Begun {
+    let mut name = name_room();
+    begin_rename_to(setting, image, slot, word, &mut name)
+}
+
+fn begin_rename_to(
+    setting: Setting,
+    image: &[u8],
+    slot: u32,
+    word: &[u8],
+    name: &mut [u8],
+) -> Begun {
+    let n = least(word.len() / 2, name.len());
+    script::hex::decode(word, &mut name[0..n]);
+    commands::start_rename(
+        image,
+        setting.granule,
+        setting.spt0,
+        setting.spt1,
+        SlotNo(slot),
+        &name[0..n],
+    )
+}

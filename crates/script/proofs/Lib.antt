@@ -1,0 +1,5 @@
+pub mod HexDigits
+pub mod HexRoundTrip
+pub mod Numbers
+pub mod Sums
+pub mod Texts

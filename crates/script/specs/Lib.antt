@@ -1,0 +1,4 @@
+pub mod Answers
+pub mod Hex
+pub mod Numbers
+pub mod Sum
