@@ -1,0 +1,30 @@
+-- `hand_over` leaves the buffer as it was, or holding the started job. Assumes nothing.
+use mathlib.Core.Path.{refl}
+use borrow.Author.Needs.{needs}
+use Rattle.linked.specs.Begun.{handed-over}
+use Rattle.linked.proofs.starts.hand_over.Statement.{statement}
+use Rattle.linked.proofs.starts.hand_over.Tie as tie
+
+enum-known-answer : tie.Need-enum-known-answer
+enum-known-answer c = search needs
+
+enum-told : tie.Need-enum-told
+enum-told c = search needs
+
+encode-requires : tie.Need-encode-requires
+encode-requires c κs = search needs
+
+returns : tie.Need-returns
+unfolding handed-over
+returns c = rw (c .before .answer .given .1) (refl, refl)
+
+same-length : tie.Need-same-length
+same-length c = search needs
+
+returns-2 : tie.Need-returns-2
+unfolding handed-over
+returns-2 c = rw (c .before .before .before .before .before .enum-told .given .1) (refl, c .before .before .encode .ensures .1)
+
+pub hand-over-spec : {M : Type 1} → statement M
+hand-over-spec =
+    tie.close (tie.spec enum-known-answer enum-told encode-requires returns same-length returns-2)

@@ -1,0 +1,28 @@
+-- An answer as C sees it: a number, and what the lent places hold afterwards. Assumes nothing.
+use mathlib.Core.Path.{_≡_}
+use mathlib.Core.List.{List}
+use Prim.Native.Nat.{ℕ}
+use lib.ListN.{length}
+use Rattle.rules.specs.Answers.{Answer, refused, given, _>>=_}
+use Rattle.rules.specs.Numbers.{Setting}
+use Rattle.rules.specs.Readers.{order-in, row-after, slot-facts, slot-name}
+
+-- 0, or the number of the refusal, which is never 0
+unfoldable pub number : {A : Type 0} → Answer A → ℕ
+number (refused n) = n
+number (given a) = 0
+
+-- what a lent number is afterwards: on a refusal what it was
+unfoldable pub kept : {A : Type 0} → (A → ℕ) → Answer A → ℕ → ℕ
+kept f (refused n) old = old
+kept f (given a) old = f a
+
+-- a list is written into the front of a lent row, and counted
+pub record Written (a : Answer (List ℕ)) (r : ℕ) (row row′ : List ℕ) (count count′ : ℕ) : Type 0 where
+  pub returned : r ≡ number a
+  pub row-left : row′ ≡ row-after a row
+  pub count-left : count′ ≡ kept length a count
+
+-- the name of a slot, or why there is none; 13 where the lent bytes are too few
+unfoldable pub name-answer : Setting → List ℕ → ℕ → ℕ → Answer (List ℕ)
+name-answer s img k room = slot-facts s img k >>= λ f. order-in (slot-name s img k) room

@@ -1,0 +1,4 @@
+pub mod Answered
+pub mod StepNumbers
+pub mod Begun
+pub mod Ran

@@ -1,0 +1,102 @@
+/* A verified flash updater for remote system update: its functions as C calls them.
+ *
+ * The library is made by `link/build`, for x86-64 Linux. Nothing checks this header against it but the two examples,
+ * so pass exactly these types.
+ *
+ * What every function asks of its caller, and all that it asks:
+ *   - a pointer is not null, also where its length is 0, and what it points to stays valid during the call;
+ *   - nothing else writes to what is lent during the call, and what is lent for writing overlaps nothing else lent.
+ * Numbers may be any: what is out of bounds is refused.
+ *
+ * What every function gives: 0, or the number of a refusal. A refusal leaves all that was lent as it was.
+ *
+ *    1  image length not a multiple of 4,096 from 4,096 to 268,435,456
+ *    2  granule not 4,096, 32,768 or 65,536
+ *    3  the two addresses equal, not multiples of the granule, or too near the end of the image
+ *    4  no copy of the table stands
+ *    5  no copy of the pointer block stands
+ *    6  the copies of a pair disagree: repair first
+ *    7  no such slot
+ *    8  the slot to disable is not in the boot order
+ *    9  a new name of 0 or over 15 bytes, with a zero byte, or one of the six fixed names
+ *   10  another entry has the new name
+ *   11  the job is finished
+ *   12  another image length than at the start, or a step outside the image
+ *   13  the lent row, or the bytes lent for a name, are too few
+ *   90  the job's buffer has another length than DELUNKPAWI_JOB_SIZE, or holds no job
+ *
+ * docs/REFUSALS.md says what to do about each.
+ */
+#ifndef DELUNKPAWI_H
+#define DELUNKPAWI_H
+
+#include <stddef.h>
+#include <stdint.h>
+
+/* The length of a job's buffer, which delunkpawi_job_size() returns too. */
+#define DELUNKPAWI_JOB_SIZE 9264
+
+/* Rows and names of these lengths are long enough for every image. */
+#define DELUNKPAWI_ORDER_MAX 127
+#define DELUNKPAWI_NAME_MAX 16
+
+#ifdef __cplusplus
+extern "C" {
+#endif
+
+/* ---- Reading a flash: the image, its erase granule, and the addresses of the two copies of its table. */
+
+/* The boot order's slot numbers, first choice first, into the front of the row, and how many there are. */
+uint8_t delunkpawi_order(const uint8_t *image, size_t image_length, size_t granule, size_t spt0, size_t spt1,
+                         uint32_t *row, size_t row_length, size_t *count);
+
+/* How many application slots there are. They are numbered from 0, in the order of the table. */
+uint8_t delunkpawi_slot_count(const uint8_t *image, size_t image_length, size_t granule, size_t spt0, size_t spt1,
+                              size_t *count);
+
+/* The row of a slot in the table, where it starts, how long it is, and its flags. */
+uint8_t delunkpawi_slot_facts(const uint8_t *image, size_t image_length, size_t granule, size_t spt0, size_t spt1,
+                              uint32_t slot, size_t *entry, uint64_t *start, uint64_t *size, uint64_t *flags);
+
+/* The name of a slot into the front of the lent bytes, with no zero at its end, and its length. */
+uint8_t delunkpawi_slot_name(const uint8_t *image, size_t image_length, size_t granule, size_t spt0, size_t spt1,
+                             uint32_t slot, uint8_t *name, size_t name_length, size_t *count);
+
+/* ---- Starting a job. The image is only read. The job, its steps not yet done, is left in the lent buffer. */
+
+size_t delunkpawi_job_size(void);
+
+/* The slot comes first in the boot order. */
+uint8_t delunkpawi_enable(const uint8_t *image, size_t image_length, size_t granule, size_t spt0, size_t spt1,
+                          uint32_t slot, uint8_t *job, size_t job_length);
+
+/* The slot leaves the boot order. */
+uint8_t delunkpawi_disable(const uint8_t *image, size_t image_length, size_t granule, size_t spt0, size_t spt1,
+                           uint32_t slot, uint8_t *job, size_t job_length);
+
+/* The slot gets another name. */
+uint8_t delunkpawi_rename(const uint8_t *image, size_t image_length, size_t granule, size_t spt0, size_t spt1,
+                          uint32_t slot, const uint8_t *name, size_t name_length, uint8_t *job, size_t job_length);
+
+/* Where the two copies of the table or of the pointer block disagree, the copy not read becomes the copy read. */
+uint8_t delunkpawi_repair(const uint8_t *image, size_t image_length, size_t granule, size_t spt0, size_t spt1,
+                          uint8_t *job, size_t job_length);
+
+/* ---- Running it. */
+
+/* Does so many steps, or all that remain, on the image, and tells how many it did. The job is left advanced by them. */
+uint8_t delunkpawi_run(uint8_t *job, size_t job_length, uint8_t *image, size_t image_length, size_t budget,
+                       size_t *done);
+
+/* How many steps remain. */
+uint8_t delunkpawi_remaining(const uint8_t *job, size_t job_length, size_t *count);
+
+/* Which step comes next, for a driver that does the steps on a device itself: kind 0 for none, 1 for `byte` programmed
+ * (new byte = old AND given) at `address`, 2 for the granule at `address` erased. */
+uint8_t delunkpawi_next_step(const uint8_t *job, size_t job_length, uint8_t *kind, size_t *address, uint8_t *byte);
+
+#ifdef __cplusplus
+}
+#endif
+
+#endif

@@ -1,0 +1,276 @@
+//! A verified flash updater, linked: safe functions over its C interface.
+//!
+//! Every image, number and job gets an answer: what was asked for, or a [`Refused`] number, which leaves image and job
+//! as they were. A Rust slice or reference is all that the library asks of what is lent, so nothing is left to check.
+
+mod raw;
+
+/// The number of a refusal: `docs/REFUSALS.md` has the list.
+#[derive(Clone, Copy, Debug, PartialEq, Eq)]
+pub struct Refused(pub u8);
+
+impl std::fmt::Display for Refused {
+    fn fmt(&self, f: &mut std::fmt::Formatter<'_>) -> std::fmt::Result {
+        write!(f, "refused {}", self.0)
+    }
+}
+
+impl std::error::Error for Refused {}
+
+fn answer<T>(number: u8, given: T) -> Result<T, Refused> {
+    if number == 0 {
+        Ok(given)
+    } else {
+        Err(Refused(number))
+    }
+}
+
+/// The erase granule of a flash, and the addresses of the two copies of its table.
+#[derive(Clone, Copy, Debug)]
+pub struct Setting {
+    pub granule: usize,
+    pub spt0: usize,
+    pub spt1: usize,
+}
+
+/// What is known of a slot beside its name.
+#[derive(Clone, Copy, Debug, PartialEq, Eq)]
+pub struct Facts {
+    pub entry: usize,
+    pub start: u64,
+    pub size: u64,
+    pub flags: u64,
+}
+
+/// The step that comes next.
+#[derive(Clone, Copy, Debug, PartialEq, Eq)]
+pub enum Step {
+    /// A byte programmed at an address: new byte = old AND given.
+    Program(usize, u8),
+    /// The granule at an address erased.
+    Erase(usize),
+}
+
+/// The length of a job's bytes, as the header has it; every start compares it with the library's.
+pub const JOB_SIZE: usize = 9264;
+
+/// The listed steps of a command, less those done.
+#[derive(Clone, PartialEq, Eq)]
+pub struct Job {
+    bytes: Box<[u8; JOB_SIZE]>,
+}
+
+/// More slots than the boot order of any image has.
+const ORDER_MAX: usize = 127;
+
+/// More bytes than a name has.
+const NAME_MAX: usize = 16;
+
+impl Setting {
+    /// The slots of the boot order, first choice first.
+    pub fn order(&self, image: &[u8]) -> Result<Vec<u32>, Refused> {
+        let mut row = vec![0; ORDER_MAX];
+        let mut count = 0;
+        let number = unsafe {
+            raw::delunkpawi_order(
+                image.as_ptr(),
+                image.len(),
+                self.granule,
+                self.spt0,
+                self.spt1,
+                row.as_mut_ptr(),
+                row.len(),
+                &mut count,
+            )
+        };
+        row.truncate(count);
+        answer(number, row)
+    }
+
+    /// How many application slots there are.
+    pub fn slot_count(&self, image: &[u8]) -> Result<usize, Refused> {
+        let mut count = 0;
+        let number = unsafe {
+            raw::delunkpawi_slot_count(
+                image.as_ptr(),
+                image.len(),
+                self.granule,
+                self.spt0,
+                self.spt1,
+                &mut count,
+            )
+        };
+        answer(number, count)
+    }
+
+    /// The row of a slot in the table, its start, length and flags.
+    pub fn slot_facts(&self, image: &[u8], slot: u32) -> Result<Facts, Refused> {
+        let mut facts = Facts { entry: 0, start: 0, size: 0, flags: 0 };
+        let number = unsafe {
+            raw::delunkpawi_slot_facts(
+                image.as_ptr(),
+                image.len(),
+                self.granule,
+                self.spt0,
+                self.spt1,
+                slot,
+                &mut facts.entry,
+                &mut facts.start,
+                &mut facts.size,
+                &mut facts.flags,
+            )
+        };
+        answer(number, facts)
+    }
+
+    /// The name of a slot, up to its zero.
+    pub fn slot_name(&self, image: &[u8], slot: u32) -> Result<Vec<u8>, Refused> {
+        let mut name = vec![0; NAME_MAX];
+        let mut count = 0;
+        let number = unsafe {
+            raw::delunkpawi_slot_name(
+                image.as_ptr(),
+                image.len(),
+                self.granule,
+                self.spt0,
+                self.spt1,
+                slot,
+                name.as_mut_ptr(),
+                name.len(),
+                &mut count,
+            )
+        };
+        name.truncate(count);
+        answer(number, name)
+    }
+
+    /// A job by which a slot comes first in the boot order.
+    pub fn enable(&self, image: &[u8], slot: u32) -> Result<Job, Refused> {
+        self.slot_job(raw::delunkpawi_enable, image, slot)
+    }
+
+    /// A job by which a slot leaves the boot order.
+    pub fn disable(&self, image: &[u8], slot: u32) -> Result<Job, Refused> {
+        self.slot_job(raw::delunkpawi_disable, image, slot)
+    }
+
+    fn slot_job(&self, start: raw::SlotStart, image: &[u8], slot: u32) -> Result<Job, Refused> {
+        started(|job| unsafe {
+            start(
+                image.as_ptr(),
+                image.len(),
+                self.granule,
+                self.spt0,
+                self.spt1,
+                slot,
+                job.as_mut_ptr(),
+                job.len(),
+            )
+        })
+    }
+
+    /// A job by which a slot gets another name.
+    pub fn rename(&self, image: &[u8], slot: u32, name: &[u8]) -> Result<Job, Refused> {
+        started(|job| unsafe {
+            raw::delunkpawi_rename(
+                image.as_ptr(),
+                image.len(),
+                self.granule,
+                self.spt0,
+                self.spt1,
+                slot,
+                name.as_ptr(),
+                name.len(),
+                job.as_mut_ptr(),
+                job.len(),
+            )
+        })
+    }
+
+    /// A job by which the copies of a pair that disagree become the copy read.
+    pub fn repair(&self, image: &[u8]) -> Result<Job, Refused> {
+        started(|job| unsafe {
+            raw::delunkpawi_repair(
+                image.as_ptr(),
+                image.len(),
+                self.granule,
+                self.spt0,
+                self.spt1,
+                job.as_mut_ptr(),
+                job.len(),
+            )
+        })
+    }
+}
+
+/// A job into a new buffer of the library's own length.
+fn started(start: impl FnOnce(&mut [u8]) -> u8) -> Result<Job, Refused> {
+    assert_eq!(
+        unsafe { raw::delunkpawi_job_size() },
+        JOB_SIZE,
+        "this wrapper is not for this library"
+    );
+    let mut bytes = Box::new([0; JOB_SIZE]);
+    let number = start(&mut bytes[..]);
+    answer(number, Job { bytes })
+}
+
+impl Job {
+    /// The job as bytes, to keep or to pass on.
+    pub fn bytes(&self) -> &[u8; JOB_SIZE] {
+        &self.bytes
+    }
+
+    /// The job that bytes hold: refused 90 if they hold none.
+    pub fn from_bytes(bytes: &[u8]) -> Result<Job, Refused> {
+        let Ok(array) = <[u8; JOB_SIZE]>::try_from(bytes) else {
+            return Err(Refused(90));
+        };
+        let job = Job { bytes: Box::new(array) };
+        job.remaining().map(|_| job)
+    }
+
+    /// How many steps remain.
+    pub fn remaining(&self) -> Result<usize, Refused> {
+        let mut count = 0;
+        let number =
+            unsafe { raw::delunkpawi_remaining(self.bytes.as_ptr(), self.bytes.len(), &mut count) };
+        answer(number, count)
+    }
+
+    /// The step that comes next, if one does.
+    pub fn next_step(&self) -> Result<Option<Step>, Refused> {
+        let (mut kind, mut address, mut byte) = (0, 0, 0);
+        let number = unsafe {
+            raw::delunkpawi_next_step(
+                self.bytes.as_ptr(),
+                self.bytes.len(),
+                &mut kind,
+                &mut address,
+                &mut byte,
+            )
+        };
+        let step = match kind {
+            0 => None,
+            1 => Some(Step::Program(address, byte)),
+            _ => Some(Step::Erase(address)),
+        };
+        answer(number, step)
+    }
+
+    /// Does so many steps, or all that remain, on the image, and tells how many.
+    pub fn run(&mut self, image: &mut [u8], budget: usize) -> Result<usize, Refused> {
+        let mut done = 0;
+        let number = unsafe {
+            raw::delunkpawi_run(
+                self.bytes.as_mut_ptr(),
+                self.bytes.len(),
+                image.as_mut_ptr(),
+                image.len(),
+                budget,
+                &mut done,
+            )
+        };
+        answer(number, done)
+    }
+}

@@ -1,0 +1,95 @@
+//! Document 01's cases on the quarry image, through every function of the library.
+
+use delunkpawi::{Facts, Job, Refused, Setting, Step};
+
+const SETTING: Setting = Setting { granule: 4096, spt0: 0x4000, spt1: 0x5000 };
+
+/// Where the first kind stands in a job's bytes.
+const FIRST_KIND: usize = 44;
+
+fn quarry() -> Vec<u8> {
+    std::fs::read(concat!(env!("CARGO_MANIFEST_DIR"), "/../../crates/listing/stdin")).unwrap()
+}
+
+/// Runs a job to its end, and tells how many steps it did.
+fn finish(mut job: Job, image: &mut [u8]) -> usize {
+    let steps = job.remaining().unwrap();
+    if steps > 0 {
+        assert_eq!(job.run(image, usize::MAX), Ok(steps));
+    }
+    assert_eq!(job.next_step(), Ok(None));
+    assert_eq!(job.run(image, 1), Err(Refused(11)));
+    steps
+}
+
+#[test]
+fn reads() {
+    let image = quarry();
+    assert_eq!(SETTING.order(&image), Ok(vec![1, 0]));
+    assert_eq!(SETTING.slot_count(&image), Ok(3));
+    assert_eq!(SETTING.slot_name(&image, 2), Ok(b"P3".to_vec()));
+    let facts = Facts { entry: 8, start: 0xA000, size: 0x1000, flags: 0 };
+    assert_eq!(SETTING.slot_facts(&image, 2), Ok(facts));
+}
+
+#[test]
+fn refuses() {
+    let image = quarry();
+    let other = Setting { granule: 8192, ..SETTING };
+    assert_eq!(SETTING.order(&[]), Err(Refused(1)));
+    assert_eq!(other.slot_count(&image), Err(Refused(2)));
+    assert_eq!(SETTING.slot_facts(&image, 3), Err(Refused(7)));
+    assert_eq!(SETTING.slot_name(&image, 3), Err(Refused(7)));
+    assert_eq!(SETTING.disable(&image, 2).err(), Some(Refused(8)));
+    assert_eq!(SETTING.rename(&image, 0, &[b'n'; 16]).err(), Some(Refused(9)));
+    assert_eq!(SETTING.rename(&image, 0, b"P2").err(), Some(Refused(10)));
+}
+
+#[test]
+fn enables_and_disables() {
+    let mut image = quarry();
+    assert_eq!(finish(SETTING.enable(&image, 1).unwrap(), &mut image), 0);
+    assert_eq!(finish(SETTING.enable(&image, 0).unwrap(), &mut image), 16);
+    assert_eq!(SETTING.order(&image), Ok(vec![0, 1]));
+    assert_eq!(finish(SETTING.disable(&image, 0).unwrap(), &mut image), 32);
+    assert_eq!(SETTING.order(&image), Ok(vec![1]));
+}
+
+#[test]
+fn renames() {
+    let mut image = quarry();
+    assert_eq!(finish(SETTING.rename(&image, 0, &[b'n'; 15]).unwrap(), &mut image), 8194);
+    assert_eq!(SETTING.slot_name(&image, 0), Ok(vec![b'n'; 15]));
+}
+
+#[test]
+fn repairs_after_a_cut() {
+    let mut image = quarry();
+    let mut job = SETTING.enable(&image, 2).unwrap();
+    assert_eq!(job.next_step(), Ok(Some(Step::Program(0x7030, 0x00))));
+    assert_eq!(job.run(&mut image, 15), Ok(15));
+    assert_eq!(SETTING.order(&image), Ok(vec![1, 0]));
+    assert_eq!(SETTING.enable(&image, 2).err(), Some(Refused(6)));
+    let job = SETTING.repair(&image).unwrap();
+    assert_eq!(job.next_step(), Ok(Some(Step::Erase(0x7000))));
+    assert_eq!(finish(job, &mut image), 4097);
+    let job = SETTING.enable(&image, 2).unwrap();
+    assert_eq!(job.next_step(), Ok(Some(Step::Program(0x7038, 0x00))));
+    assert_eq!(finish(job, &mut image), 16);
+    assert_eq!(SETTING.order(&image), Ok(vec![2, 1, 0]));
+}
+
+#[test]
+fn keeps_a_job_as_bytes() {
+    let mut image = quarry();
+    let mut job = SETTING.enable(&image, 2).unwrap();
+    assert_eq!(job.run(&mut image, 7), Ok(7));
+    let bytes = *job.bytes();
+    assert_eq!(Job::from_bytes(&bytes).unwrap().remaining(), Ok(9));
+    assert_eq!(Job::from_bytes(&bytes[1..]).err(), Some(Refused(90)));
+    let mut damaged = bytes;
+    damaged[FIRST_KIND] = 3;
+    assert_eq!(Job::from_bytes(&damaged).err(), Some(Refused(90)));
+    assert_eq!(job.run(&mut image[4096..], 1), Err(Refused(12)));
+    assert!(job.bytes() == &bytes);
+}
