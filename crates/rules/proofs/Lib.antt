@@ -1,9 +1,5 @@
-pub mod Opened
 pub mod Tests
 pub mod Programming
-pub mod Cases
-pub mod Examples
-pub mod QuarryList
 pub mod AsListed
 pub mod AtEveryCut
 pub mod Ordering
@@ -49,4 +45,3 @@ pub mod PutBytes
 pub mod PointersPut
 pub mod JobBytes
 pub mod FinalBytes
-pub mod FinalExamples

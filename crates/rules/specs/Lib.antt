@@ -10,6 +10,4 @@ pub mod Steps
 pub mod Commands
 pub mod Cuts
 pub mod Book
-pub mod Quarry
 pub mod Final
-pub mod Cases

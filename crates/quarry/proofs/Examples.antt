@@ -6,23 +6,23 @@ use mathlib.Core.List.{List, [], _∷_, _++_, map}
 use Prim.Native.Nat.{ℕ, _+_, _*_}
 use lib.Dec.{eqb, ltb}
 use lib.ListN.{take, drop, length, getD, replicate}
 use Rattle.rules.specs.Lists.{same, without, pairwise, keep, first}
 use Rattle.rules.specs.Bytes.{little-endian, bytes-of, field, block, up-to-zero, multiple}
 use Rattle.rules.specs.Answers.{refused, given, unless, _>>=_}
 use Rattle.rules.specs.Numbers.{setting, length-right, granule-right, addresses-right}
 use Rattle.rules.specs.Table.{Entry, entry, entry-count, entries, spt0-name, cpb0-name, cpb1-name, has-name, is-fixed-name, no-entry, named, cpb0-of, header-right, count-right, name-right, names-differ, range-aligned, range-inside, ranges-apart, six-named, boot-info-at-0, tables-as-told, on-granules, blocks-on-granules, table-stands, is-slot, starts}
 use Rattle.rules.specs.Pointers.{pointers-stand, places, erased-value, judged, order}
 use Rattle.rules.specs.Copies.{copy-read, pair-agrees, dump-stands, standing-dump}
 use Rattle.rules.specs.Readers.{order-in, row-after, slot-row, facts, name-in}
 use Rattle.rules.specs.Steps.{programmed, wiped, steps, programs, rewrite, rewrite-pair}
 use Rattle.rules.specs.Commands.{pointer-bytes, filled, pointers-of, free-place, is-first, into-place, append-steps, giving, into-places, half-cleared-names, padded-name, put-name, name-allowed, name-free, rename-steps, repair-pair, enable, disable, rename}
 use Rattle.rules.specs.Cuts.{Progress, run, may-run, runs, half-done, dropped}
 use Rattle.rules.specs.Book.{Reading, was-refused, finished, cut, how-ended, renamed, booked}
-use Rattle.rules.specs.Quarry.{quarry-setting, padded, entry-bytes, quarry-table, quarry-pointers}
+use Rattle.quarry.specs.Quarry.{quarry-setting, padded, entry-bytes, quarry-table, quarry-pointers}
 use Rattle.rules.specs.declared.Place.the-variants.{Erased, Live, Dead}
 use Rattle.rules.specs.declared.Step.{Step}
 use Rattle.rules.specs.declared.Step.the-variants.{Program, Erase}
-use Rattle.rules.proofs.Opened.{rules}
+use Rattle.quarry.proofs.Opened.{rules}
 
 -- three application slots' starts, slot number 0 first
 abbrev three-starts : List ℕ

@@ -5,15 +5,15 @@ use mathlib.Core.Bool.{Bool, true, false}
 use mathlib.Core.List.{List, [], _∷_}
 use Prim.Native.Nat.{ℕ}
 use lib.ListN.{replicate}
 use Rattle.rules.specs.Lists.{all}
 use Rattle.rules.specs.Table.{table-stands}
 use Rattle.rules.specs.Steps.{steps}
 use Rattle.rules.specs.Commands.{name-allowed}
-use Rattle.rules.specs.Quarry.{quarry-setting, longer-length, longer-table}
-use Rattle.rules.specs.Cases.{Row, holds, starred, unstarred, case-1, case-2, case-3, case-4, case-5, case-6, case-7, case-7-full, case-8, case-8-inside, case-9, case-10}
+use Rattle.quarry.specs.Quarry.{quarry-setting, longer-length, longer-table}
+use Rattle.quarry.specs.Cases.{Row, holds, starred, unstarred, case-1, case-2, case-3, case-4, case-5, case-6, case-7, case-7-full, case-8, case-8-inside, case-9, case-10}
 use Rattle.rules.specs.declared.Step.{Step}
-use Rattle.rules.proofs.Opened.{rules}
+use Rattle.quarry.proofs.Opened.{rules}
 use Rattle.rules.proofs.Programming.{fast-steps, fast-is-steps}
 
 -- ---- the rows, one computation each
 

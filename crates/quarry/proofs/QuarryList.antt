@@ -10,22 +10,22 @@ use lib.Dec.{ltb}
 use borrow.Author.Tests.{ltb-true}
 use lib.ListN.{take, drop}
 use lib.Seq.{drop-drop, take-nil}
 use Rattle.rules.specs.Lists.{all}
 use Rattle.rules.specs.Bytes.{Bytes}
 use Rattle.rules.specs.Answers.{Answer, refused, given}
 use Rattle.rules.specs.Numbers.{Setting}
 use Rattle.rules.specs.Copies.{pairs-agree}
 use Rattle.rules.specs.Steps.{step, steps}
 use Rattle.rules.specs.Commands.{Command, enable, disable, repair, start}
 use Rattle.rules.specs.Cuts.{run, runs, half-done, dropped}
 use Rattle.rules.specs.Book.{Item, Outcome, was-refused, finished, cut, how-ended, progress, left-by, flash-after, ended-by, outcome, names-bytes, name-bytes, Demand3}
-use Rattle.rules.specs.Quarry.{quarry-setting, quarry}
+use Rattle.quarry.specs.Quarry.{quarry-setting, quarry}
 use Rattle.rules.specs.declared.Step.{Step}
 use Rattle.rules.proofs.Tests.{and-true}
-use Rattle.rules.proofs.Opened.{rules}
+use Rattle.quarry.proofs.Opened.{rules}
 use Rattle.rules.proofs.Programming.{fast-steps, fast-is-steps}
 use Rattle.rules.proofs.Cutting.{under-way}
 use Rattle.rules.proofs.Theorem.{demand-3}
 
 -- ---- the list
 

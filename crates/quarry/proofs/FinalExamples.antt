@@ -3,15 +3,15 @@ use mathlib.Core.Path.{_≡_, refl}
 use mathlib.Core.List.{List, [], _∷_}
 use Prim.Native.Nat.{ℕ, _+_}
 use lib.ListN.{take, drop, replicate}
 use Rattle.rules.specs.Bytes.{block-size}
 use Rattle.rules.specs.Answers.{given}
 use Rattle.rules.specs.Copies.{view}
 use Rattle.rules.specs.Steps.{wiped}
 use Rattle.rules.specs.Commands.{enable, disable, rename, repair}
 use Rattle.rules.specs.Final.{put-at, put-block, put-places, final}
-use Rattle.rules.specs.Quarry.{quarry-setting, quarry-with, quarry}
+use Rattle.quarry.specs.Quarry.{quarry-setting, quarry-with, quarry}
 use Rattle.rules.specs.declared.View.{View}
-use Rattle.rules.proofs.Opened.{rules}
+use Rattle.quarry.proofs.Opened.{rules}
 
 put-examples :
     (put-at 1 (7 ∷ 8 ∷ []) (1 ∷ 2 ∷ 3 ∷ 4 ∷ []) ≡ 1 ∷ 7 ∷ 8 ∷ 4 ∷ [])

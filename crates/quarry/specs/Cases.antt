@@ -5,16 +5,16 @@ use mathlib.Core.List.{List, [], _∷_}
 use Prim.Native.Nat.{ℕ, _+_, _*_, _-_}
 use lib.Dec.{eqb}
 use lib.ListN.{take, drop, getD, length}
 use Rattle.rules.specs.Lists.{same, all}
 use Rattle.rules.specs.Bytes.{block}
 use Rattle.rules.specs.Answers.{Answer, refused, given}
 use Rattle.rules.specs.Pointers.{places}
 use Rattle.rules.specs.Readers.{order-list}
 use Rattle.rules.specs.Commands.{Command, enable, disable, repair, start}
 use Rattle.rules.specs.Cuts.{half-done}
-use Rattle.rules.specs.Quarry.{quarry-setting, quarry, quarry-used-to, quarry-moved}
+use Rattle.quarry.specs.Quarry.{quarry-setting, quarry, quarry-used-to, quarry-moved}
 use Rattle.rules.specs.declared.Step.{Step}
 use Rattle.rules.specs.declared.Step.the-variants.{Program, Erase}
 
 -- ---- what a row says
 

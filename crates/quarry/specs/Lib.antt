@@ -1,0 +1,2 @@
+pub mod Quarry
+pub mod Cases
