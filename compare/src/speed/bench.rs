@@ -16,21 +16,44 @@ const IMAGE_LENGTHS: [(&str, usize); 3] =
     [("64 KiB", 65_536), ("1 MiB", 1_048_576), ("256 MiB", 268_435_456)];
 /// BOOT_INFO, FACTORY_IMAGE and the four blocks, of 4,096 bytes each.
 const FIXED_NAMES: [&str; 6] = ["BOOT_INFO", "FACTORY_IMAGE", "SPT0", "SPT1", "CPB0", "CPB1"];
-/// The least time of these many rounds counts.
-const ROUNDS: usize = 25;
+/// The least time of these many rounds counts. The sides take turns, so that a machine that slows
+/// down for a while does so for all of them.
+const ROUNDS: usize = 60;
 /// Calls in a round.
-const CALLS: usize = 200;
+const CALLS: usize = 100;
 
-/// One measured call: what it is, and how many nanoseconds it takes.
-struct Measured {
-    what: String,
-    nanoseconds: f64,
+/// A round of calls on an image, and how many nanoseconds one of them took.
+type Round = Box<dyn FnMut(&mut [u8]) -> f64>;
+
+/// What is measured of one implementation.
+struct Side {
+    order: fn(&Geometry) -> Round,
+    start: fn(&Geometry, &Command) -> Round,
+    run: fn(&[u8], &Geometry, &Command) -> Round,
+}
+
+impl Side {
+    fn of<U: Updater + 'static>() -> Side {
+        Side { order: order_round::<U>, start: start_round::<U>, run: run_round::<U> }
+    }
+}
+
+#[cfg(feature = "linked")]
+fn sides() -> Vec<Side> {
+    vec![Side::of::<Independent>(), Side::of::<super::linked::Linked>()]
+}
+
+#[cfg(not(feature = "linked"))]
+fn sides() -> Vec<Side> {
+    vec![Side::of::<Independent>()]
 }
 
 /// Measures everything and prints a table.
 pub fn measure() {
-    let columns = if cfg!(feature = "linked") { "independent | updater | ratio" } else { "ns" };
+    let sides = sides();
+    let columns = if sides.len() == 2 { "independent | updater | ratio" } else { "ns" };
     println!("slots | used places | image | call | {columns}");
+    let mut ratios = Vec::new();
     for (length_name, image_length) in IMAGE_LENGTHS {
         for slots in SLOTS {
             // The image of 64 KiB has room for 3 slots only.
@@ -39,10 +62,43 @@ pub fn measure() {
             }
             for used in USED_PLACES {
                 let flash = bench_flash(image_length, slots, used);
-                print_rows(&format!("{slots} | {used} | {length_name}"), &measure_sides(&flash));
+                for (what, times) in measure_flash(&sides, &flash) {
+                    ratios.extend(print_row(slots, used, length_name, &what, &times));
+                }
             }
         }
     }
+    print_ratios(ratios);
+}
+
+fn print_row(slots: u64, used: u64, length: &str, what: &str, times: &[f64]) -> Option<f64> {
+    let columns: Vec<String> = times.iter().map(|time| format!("{time:.0}")).collect();
+    print!("{slots} | {used} | {length} | {what} | {}", columns.join(" | "));
+    let ratio = match times {
+        [independent, updater] => Some(updater / independent),
+        _ => None,
+    };
+    match ratio {
+        Some(ratio) => println!(" | {ratio:.2}"),
+        None => println!(),
+    }
+    ratio
+}
+
+/// How many of the ratios are how great.
+fn print_ratios(mut ratios: Vec<f64>) {
+    ratios.sort_by(f64::total_cmp);
+    let [Some(least), Some(greatest)] = [ratios.first(), ratios.last()] else {
+        return;
+    };
+    let up_to = |bound: f64| ratios.iter().filter(|&&ratio| ratio <= bound).count();
+    let median = ratios[ratios.len() / 2];
+    println!(
+        "{} ratios: {} up to 1.0, {} up to 1.5; least {least:.2}, median {median:.2}, greatest {greatest:.2}",
+        ratios.len(),
+        up_to(1.0),
+        up_to(1.5),
+    );
 }
 
 /// A flash with slots spread over the image and the places used by all slots in turn.
@@ -61,74 +117,61 @@ fn bench_flash(image_length: usize, slots: u64, used: u64) -> Flash {
     Flash::new(image_length, BLOCK, partitions, &places)
 }
 
-#[cfg(feature = "linked")]
-fn measure_sides(flash: &Flash) -> Vec<Vec<Measured>> {
-    vec![measure_flash::<Independent>(flash), measure_flash::<super::linked::Linked>(flash)]
-}
-
-#[cfg(not(feature = "linked"))]
-fn measure_sides(flash: &Flash) -> Vec<Vec<Measured>> {
-    vec![measure_flash::<Independent>(flash)]
-}
-
-fn print_rows(title: &str, sides: &[Vec<Measured>]) {
-    for (number, row) in sides[0].iter().enumerate() {
-        let times: Vec<f64> = sides.iter().map(|side| side[number].nanoseconds).collect();
-        let mut columns: Vec<String> = times.iter().map(|time| format!("{time:.0}")).collect();
-        if let [independent, updater] = times[..] {
-            columns.push(format!("{:.2}", updater / independent));
-        }
-        println!("{title} | {} | {}", row.what, columns.join(" | "));
-    }
-}
-
-fn measure_flash<U: Updater>(flash: &Flash) -> Vec<Measured> {
+/// Each call on this flash, and how long it takes each side.
+fn measure_flash(sides: &[Side], flash: &Flash) -> Vec<(String, Vec<f64>)> {
     let mut image = flash.image();
     let geometry = flash.geometry();
     let mut row = [0; PLACES];
-    let count = U::order_list(&image, &geometry, &mut row).expect("a flash that stands");
+    let count = Independent::order_list(&image, &geometry, &mut row).expect("a flash that stands");
     let (first, last) = (row[0], row[count - 1]);
-    let nanoseconds = least_time(|| order_time::<U>(&image, &geometry));
-    let mut measured = vec![Measured { what: "order list".to_string(), nanoseconds }];
+    let orders = sides.iter().map(|side| (side.order)(&geometry)).collect();
+    let mut measured = vec![("order list".to_string(), least_times(orders, &mut image))];
     let commands = [
         ("enable", Command::Enable(last)),
         ("disable", Command::Disable(first)),
         ("rename", Command::Rename(0, b"ANOTHER-NAME".to_vec())),
     ];
     for (name, command) in commands {
-        measured.extend(measure_command::<U>(&mut image, &geometry, name, &command));
+        measured.extend(measure_command(sides, &mut image, &geometry, name, &command));
     }
     // What is not judged differs, so that both pairs disagree.
     let [[_, spt1], [_, cpb1]] = [flash.table_addresses(), flash.pointer_addresses()];
     for address in [spt1, cpb1] {
         image[address as usize + 12] ^= 1;
     }
-    measured.extend(measure_command::<U>(&mut image, &geometry, "repair", &Command::Repair));
+    measured.extend(measure_command(sides, &mut image, &geometry, "repair", &Command::Repair));
     measured
 }
 
 /// A command's start and its whole run; the image is as before afterwards.
-fn measure_command<U: Updater>(
+fn measure_command(
+    sides: &[Side],
     image: &mut [u8],
     geometry: &Geometry,
     name: &str,
     command: &Command,
-) -> [Measured; 2] {
-    let job = U::start(image, geometry, command).expect("a job");
-    let start = least_time(|| start_time::<U>(image, geometry, command));
+) -> [(String, Vec<f64>); 2] {
+    let starts = sides.iter().map(|side| (side.start)(geometry, command)).collect();
+    let start = least_times(starts, image);
     let blocks = FIXED_NAMES.len() * BLOCK_BYTES;
     let before = image[..blocks].to_vec();
-    let steps = U::run(&mut job.clone(), image, u64::MAX).expect("a job with steps");
-    let run = least_time(|| run_time::<U>(&job, image));
+    let runs = sides.iter().map(|side| (side.run)(image, geometry, command)).collect();
+    let mut job = Independent::start(image, geometry, command).expect("a job");
+    let steps = Independent::run(&mut job, image, u64::MAX).expect("a job with steps");
+    let run = least_times(runs, image);
     image[..blocks].copy_from_slice(&before);
-    [("start", start), ("run", run)].map(|(part, nanoseconds)| {
-        let what = format!("{name}, {steps} steps, {part}");
-        Measured { what, nanoseconds }
-    })
+    [("start", start), ("run", run)]
+        .map(|(part, times)| (format!("{name}, {steps} steps, {part}"), times))
 }
 
-fn least_time(mut round: impl FnMut() -> f64) -> f64 {
-    (0..ROUNDS).map(|_| round()).fold(f64::INFINITY, f64::min)
+fn least_times(mut rounds: Vec<Round>, image: &mut [u8]) -> Vec<f64> {
+    let mut least = vec![f64::INFINITY; rounds.len()];
+    for _ in 0..ROUNDS {
+        for (time, round) in least.iter_mut().zip(&mut rounds) {
+            *time = time.min(round(image));
+        }
+    }
+    least
 }
 
 /// Nanoseconds that one of these calls takes.
@@ -140,25 +183,34 @@ fn time<T>(inputs: impl IntoIterator<Item = T>, mut call: impl FnMut(T)) -> f64 
     began.elapsed().as_nanos() as f64 / CALLS as f64
 }
 
-fn order_time<U: Updater>(image: &[u8], geometry: &Geometry) -> f64 {
-    let mut row = [0; PLACES];
-    time(0..CALLS, |_| {
-        let count = U::order_list(black_box(image), geometry, &mut row);
-        assert!(count.is_ok());
+fn order_round<U: Updater>(geometry: &Geometry) -> Round {
+    let geometry = *geometry;
+    Box::new(move |image| {
+        let mut row = [0; PLACES];
+        time(0..CALLS, |_| {
+            let count = U::order_list(black_box(image), &geometry, &mut row);
+            assert!(count.is_ok());
+        })
     })
 }
 
-fn start_time<U: Updater>(image: &[u8], geometry: &Geometry, command: &Command) -> f64 {
-    time(0..CALLS, |_| {
-        let job = U::start(black_box(image), geometry, command);
-        assert!(black_box(&job).is_ok());
+fn start_round<U: Updater>(geometry: &Geometry, command: &Command) -> Round {
+    let (geometry, command) = (*geometry, command.clone());
+    Box::new(move |image| {
+        time(0..CALLS, |_| {
+            let job = U::start(black_box(image), &geometry, &command);
+            assert!(black_box(&job).is_ok());
+        })
     })
 }
 
-fn run_time<U: Updater>(job: &U::Job, image: &mut [u8]) -> f64 {
-    let mut jobs = vec![job.clone(); CALLS];
-    time(&mut jobs, |job| {
-        let steps = U::run(job, black_box(&mut *image), u64::MAX);
-        assert!(steps.is_ok());
+fn run_round<U: Updater + 'static>(image: &[u8], geometry: &Geometry, command: &Command) -> Round {
+    let job = U::start(image, geometry, command).expect("a job");
+    Box::new(move |image| {
+        let mut jobs = vec![job.clone(); CALLS];
+        time(&mut jobs, |job| {
+            let steps = U::run(job, black_box(&mut *image), u64::MAX);
+            assert!(steps.is_ok());
+        })
     })
 }

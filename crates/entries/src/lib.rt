@@ -79,12 +79,23 @@ pub fn find_named(table: &[u8], n: usize, wanted: &[u8]) -> EntryNo
 {
     let mut i = 0;
     while i < n {
-        if has_name(table, EntryNo(i), wanted) {
+        if is_wanted(table, EntryNo(i), wanted) {
             return EntryNo(i);
         }
         i += 1;
     }
     EntryNo(n)
+}
+
+// The entry has that name, which the first byte decides for most.
+fn is_wanted(table: &[u8], e: EntryNo, wanted: &[u8]) -> bool
+    requires { ⌜ (length (now table) ≡ block-size) × (e .0 < most-entries) ⌝ }
+    ensures { λ r. ⌜ r ≡ has-name (up-to-zero (now (wanted .entry))) (entry-at (now (table .entry)) (e .0)) ⌝ }
+{
+    if !names::begin_alike(entry_name(table, e), wanted) {
+        return false;
+    }
+    has_name(table, e, wanted)
 }
 
 // The start of the first of n entries that has the name; 0 where none has.

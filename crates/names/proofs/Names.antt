@@ -7,7 +7,7 @@ use native.Mathlib.Nat.{le-of-suc-le-suc, not-suc-le-zero}
 use lib.ListN.{length, getD, drop, drop-of-length-le}
 use lib.Seq.{drop-nil, drop-cons}
 use lib.Dec.{eqb}
-use borrow.Author.Tests.{eq-eqb, ne-eqb, eqb-true}
+use borrow.Author.Tests.{eq-eqb, ne-eqb, eqb-true, eqb-false}
 use Rattle.rules.specs.Lists.{same}
 use Rattle.rules.specs.Bytes.{up-to-zero}
 
@@ -93,3 +93,7 @@ same-over [] (y ∷ ys) (suc i) h = simp drop-nil at (same-over [] ys i zero-le)
 same-over (x ∷ xs) b zero h = absurd (not-suc-le-zero h)
 same-over (x ∷ xs) [] (suc i) h = simp drop-nil at (same-over xs [] i (le-of-suc-le-suc h))
 same-over (x ∷ xs) (y ∷ ys) (suc i) h = same-over xs ys i (le-of-suc-le-suc h)
+
+-- names that do not begin alike differ
+pub begin-otherwise : (a b : List ℕ) → 0 < length a → eqb (getD a 0 0) (getD b 0 0) ≡ false → same (up-to-zero a) (up-to-zero b) ≡ false
+begin-otherwise a b h d = same-fails a b 0 h (eqb-false (getD a 0 0) (getD b 0 0) d)

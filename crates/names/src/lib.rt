@@ -1,6 +1,7 @@
 // Names up to their zero byte: how long one is, and whether two are the same.
 ghost use mathlib.Core.Path.{_≡_};
 ghost use Prim.Native.Nat.{_≤_};
+ghost use lib.Dec.{eqb};
 ghost use lib.ListN.{length, getD};
 ghost use Rattle.rules.specs.Lists.{same};
 ghost use Rattle.rules.specs.Bytes.{up-to-zero};
@@ -37,6 +38,13 @@ pub fn same_name(a: &[u8], b: &[u8]) -> bool
     }
     let last = byte_or_zero(b, i);
     last == 0
+}
+
+// The two names begin with the same byte, or are both empty. A search asks this first: most names differ here.
+pub fn begin_alike(a: &[u8], b: &[u8]) -> bool
+    ensures { λ r. ⌜ r ≡ eqb (getD (now (a .entry)) 0 0) (getD (now (b .entry)) 0 0) ⌝ }
+{
+    byte_or_zero(a, 0) == byte_or_zero(b, 0)
 }
 
 // The byte at an index, or 0 past the end, where a name ends too.

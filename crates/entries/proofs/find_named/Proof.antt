@@ -24,15 +24,15 @@ abbrev μ-loop : tie.MeasureT-loop
 loop-holds : tie.Need-loop-holds Inv-loop μ-loop
 loop-holds c = (omega arith, omega arith)
 
-has-name-requires : tie.Need-has-name-requires Inv-loop μ-loop
-has-name-requires c κs = search needs
+is-wanted-requires : tie.Need-is-wanted-requires Inv-loop μ-loop
+is-wanted-requires c κs = search needs
 
 returns : tie.Need-returns Inv-loop μ-loop
 returns c =
     let at = c .before .before .before in
     let a = at .before .before .before .args in
     let turn = entries-turn (a .n) (at .loop .i) (a .table .now) (omega arith) in
-    let has = sym (c .before .has-name .ensures) ∙ c .if1 .taken in
+    let has = sym (c .before .is-wanted .ensures) ∙ c .if1 .taken in
     (omega (arith, find-here (has-name (up-to-zero (a .wanted .now))) turn has), omega arith)
 
 add-i : tie.Need-add-i Inv-loop μ-loop
@@ -46,7 +46,7 @@ loop-again c =
     let at = c .before .before .before in
     let a = at .before .before .before .args in
     let turn = entries-turn (a .n) (at .loop .i) (a .table .now) (omega arith) in
-    let has-not = sym (c .before .has-name .ensures) ∙ c .if1 .left in
+    let has-not = sym (c .before .is-wanted .ensures) ∙ c .if1 .left in
     (omega arith, omega (arith, find-goes (has-name (up-to-zero (a .wanted .now))) turn has-not))
 
 returns-2 : tie.Need-returns-2 Inv-loop μ-loop
@@ -63,7 +63,7 @@ find-named-spec =
     Inv-loop
     μ-loop
     loop-holds
-    has-name-requires
+    is-wanted-requires
     returns
     add-i
     loop-less

@@ -1,0 +1,34 @@
+-- `entries::is_wanted` meets its contract: names that do not begin alike differ. Assumes nothing.
+use mathlib.Core.Path.{sym}
+use native.Mathlib.Omega.{arith}
+use borrow.Author.Needs.{needs}
+use Rattle.rules.specs.Table.{has-name, name}
+use Rattle.names.proofs.Names.{begin-otherwise}
+use Rattle.walks.proofs.Joined.{failed}
+use Rattle.entries.proofs.is_wanted.Statement.{statement}
+use Rattle.entries.proofs.is_wanted.Tie as tie
+
+entry-name-requires : tie.Need-entry-name-requires
+entry-name-requires c κs = search needs
+
+begin-alike-requires : tie.Need-begin-alike-requires
+begin-alike-requires c κs = search needs
+
+returns : tie.Need-returns
+unfolding has-name name
+returns c =
+    let found = c .before .before .entry-name in
+    let differ = failed (c .before .begin-alike .ensures) (c .if1 .taken) in
+    sym (rw (← found .ensures .0) (begin-otherwise (found .result .now) (c .before .before .before .before .before .args .wanted .now)
+    (omega (arith, found .ensures .1)) differ))
+
+has-name-requires : tie.Need-has-name-requires
+has-name-requires c κs = search needs
+
+returns-2 : tie.Need-returns-2
+returns-2 c = search needs
+
+pub is-wanted-spec : {M : Type 1} → statement M
+is-wanted-spec =
+    tie.close
+    (tie.spec entry-name-requires begin-alike-requires returns has-name-requires returns-2)
