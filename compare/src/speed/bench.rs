@@ -156,7 +156,7 @@ fn measure_command(
     let blocks = FIXED_NAMES.len() * BLOCK_BYTES;
     let before = image[..blocks].to_vec();
     let runs = sides.iter().map(|side| (side.run)(image, geometry, command)).collect();
-    let mut job = Independent::start(image, geometry, command).expect("a job");
+    let mut job = started::<Independent>(image, geometry, command);
     let steps = Independent::run(&mut job, image, u64::MAX).expect("a job with steps");
     let run = least_times(runs, image);
     image[..blocks].copy_from_slice(&before);
@@ -194,18 +194,25 @@ fn order_round<U: Updater>(geometry: &Geometry) -> Round {
     })
 }
 
-fn start_round<U: Updater>(geometry: &Geometry, command: &Command) -> Round {
+fn started<U: Updater>(image: &[u8], geometry: &Geometry, command: &Command) -> U::Job {
+    let mut job = U::no_job();
+    U::start(image, geometry, command, &mut job).expect("a job");
+    job
+}
+
+fn start_round<U: Updater + 'static>(geometry: &Geometry, command: &Command) -> Round {
     let (geometry, command) = (*geometry, command.clone());
+    let mut job = U::no_job();
     Box::new(move |image| {
         time(0..CALLS, |_| {
-            let job = U::start(black_box(image), &geometry, &command);
-            assert!(black_box(&job).is_ok());
+            let started = U::start(black_box(image), &geometry, &command, black_box(&mut job));
+            assert!(started.is_ok());
         })
     })
 }
 
 fn run_round<U: Updater + 'static>(image: &[u8], geometry: &Geometry, command: &Command) -> Round {
-    let job = U::start(image, geometry, command).expect("a job");
+    let job = started::<U>(image, geometry, command);
     Box::new(move |image| {
         let mut jobs = vec![job.clone(); CALLS];
         time(&mut jobs, |job| {

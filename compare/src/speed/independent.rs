@@ -20,8 +20,18 @@ impl Updater for Independent {
         reading::order_list(image, geometry, row).map_err(number)
     }
 
-    fn start(image: &[u8], geometry: &Geometry, command: &Command) -> Result<Job, u32> {
-        commands::start(image, geometry, command, None).map_err(number)
+    fn no_job() -> Job {
+        Job::new(0, 0, Vec::new())
+    }
+
+    fn start(
+        image: &[u8],
+        geometry: &Geometry,
+        command: &Command,
+        job: &mut Job,
+    ) -> Result<(), u32> {
+        *job = commands::start(image, geometry, command, None).map_err(number)?;
+        Ok(())
     }
 
     fn run(job: &mut Job, image: &mut [u8], budget: u64) -> Result<u64, u32> {

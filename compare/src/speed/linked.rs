@@ -99,14 +99,23 @@ impl Updater for Linked {
         unless_refused(refused, count)
     }
 
-    fn start(image: &[u8], geometry: &Geometry, command: &Command) -> Result<Vec<u8>, u32> {
+    fn no_job() -> Vec<u8> {
+        // SAFETY: it takes nothing and answers a constant.
+        vec![0; unsafe { delunkpawi_job_size() }]
+    }
+
+    fn start(
+        image: &[u8],
+        geometry: &Geometry,
+        command: &Command,
+        job: &mut Vec<u8>,
+    ) -> Result<(), u32> {
         let (granule, spt0, spt1) = setting(geometry);
         let (at, length) = (image.as_ptr(), image.len());
+        let (job, size) = (job.as_mut_ptr(), job.len());
         // SAFETY: image, name and the job's buffer are lent for the call, with their lengths.
-        unsafe {
-            let mut buffer = vec![0; delunkpawi_job_size()];
-            let (job, size) = (buffer.as_mut_ptr(), buffer.len());
-            let refused = match command {
+        let refused = unsafe {
+            match command {
                 Command::Enable(slot) => {
                     delunkpawi_enable(at, length, granule, spt0, spt1, *slot, job, size)
                 }
@@ -120,9 +129,9 @@ impl Updater for Linked {
                     )
                 }
                 Command::Repair => delunkpawi_repair(at, length, granule, spt0, spt1, job, size),
-            };
-            unless_refused(refused, buffer)
-        }
+            }
+        };
+        unless_refused(refused, ())
     }
 
     fn run(job: &mut Vec<u8>, image: &mut [u8], budget: u64) -> Result<u64, u32> {

@@ -17,7 +17,15 @@ pub trait Updater {
     /// Writes the boot order into the front of the row and returns its length.
     fn order_list(image: &[u8], geometry: &Geometry, row: &mut [u32]) -> Result<usize, u32>;
 
-    fn start(image: &[u8], geometry: &Geometry, command: &Command) -> Result<Self::Job, u32>;
+    /// What a start puts its job into, with no job in it yet.
+    fn no_job() -> Self::Job;
+
+    fn start(
+        image: &[u8],
+        geometry: &Geometry,
+        command: &Command,
+        job: &mut Self::Job,
+    ) -> Result<(), u32>;
 
     /// Runs a job within a budget and returns the number of steps done.
     fn run(job: &mut Self::Job, image: &mut [u8], budget: u64) -> Result<u64, u32>;

@@ -1,8 +1,8 @@
 -- The quarry cases hold: `starred-hold` over the table that document 01 marks, `unstarred-hold` over the others.
 -- Each row is computed with `fast-steps`; then the tables are carried to `steps`, the same function. Assumes nothing.
 use mathlib.Core.Path.{_≡_, refl, subst}
-use mathlib.Core.Bool.{Bool, true, false}
-use mathlib.Core.List.{List, [], _∷_}
+use mathlib.Core.Bool.{true, false}
+use mathlib.Core.List.{List}
 use Prim.Native.Nat.{ℕ}
 use lib.ListN.{replicate}
 use Rattle.rules.specs.Lists.{all}

@@ -1,14 +1,12 @@
 -- The first steps that small commands list, computed: which copy, which byte and which place comes first. Assumes nothing.
 use mathlib.Core.Path.{_≡_, refl}
-use mathlib.Core.List.{List, [], _∷_}
-use Prim.Native.Nat.{ℕ}
+use mathlib.Core.List.{[], _∷_}
 use lib.ListN.{take, drop}
 use Rattle.rules.specs.Lists.{member, without}
 use Rattle.rules.specs.Bytes.{little-endian, bytes-of, field}
-use Rattle.rules.specs.Pointers.{place-offset, place-count, values, places, erased-value, all-ones, one-more, slot-at, live-or-dead, judged, is-erased, slot-given, gives, add-last, order}
+use Rattle.rules.specs.Pointers.{place-offset, place-count, values, places, erased-value, all-ones, one-more, slot-at, live-or-dead, judged, is-erased, slot-given, add-last, order}
 use Rattle.rules.specs.Steps.{programs, rewrite, rewrite-pair}
 use Rattle.rules.specs.Commands.{pointer-bytes, filled, pointers-of, reorder-steps, below, free-place, into-place, append-steps, giving, into-places, clear-steps, half-cleared-names, disable-steps}
-use Rattle.rules.specs.declared.Step.{Step}
 use Rattle.rules.specs.declared.Step.the-variants.{Program, Erase}
 
 -- a pointer goes into copy 1 first, lowest byte first: 0xA000 into place 2 of the blocks at 0x6000 and 0x7000

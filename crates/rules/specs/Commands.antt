@@ -4,9 +4,9 @@ use mathlib.Core.List.{List, [], _∷_, _++_, map, reverse}
 use Prim.Native.Nat.{ℕ, zero, suc, _+_, _*_, _-_, _/_}
 use lib.Dec.{eqb, leb, ltb}
 use lib.ListN.{take, drop, getD, length, replicate}
-use Rattle.rules.specs.Lists.{same, member, without, all, any}
+use Rattle.rules.specs.Lists.{member, without, all, any}
 use Rattle.rules.specs.Bytes.{bytes-of, block, erased-byte}
-use Rattle.rules.specs.Answers.{Answer, refused, given, unless, _>>=_}
+use Rattle.rules.specs.Answers.{Answer, given, unless, _>>=_}
 use Rattle.rules.specs.Numbers.{Setting}
 use Rattle.rules.specs.Table.{Entry, entries, has-name, is-fixed-name, starts, table-stands}
 use Rattle.rules.specs.Pointers.{place-offset, place-count, places, order, judged, is-erased, gives, pointers-stand}

@@ -1,5 +1,5 @@
 -- "Which copy is read": refusals 1 to 5, the view of a flash, when the pairs agree, two dumps. Assumes nothing.
-use mathlib.Core.Bool.{Bool, true, false, cond, _&&_}
+use mathlib.Core.Bool.{Bool, false, cond, _&&_}
 use mathlib.Core.List.{List, []}
 use Prim.Native.Nat.{ℕ}
 use lib.Dec.{eqb}

@@ -5,8 +5,8 @@ use Prim.Native.Nat.{ℕ, _+_, min}
 use lib.Dec.{eqb, leb, ltb}
 use lib.ListN.{take, drop, length}
 use Rattle.rules.specs.Lists.{all}
-use Rattle.rules.specs.Answers.{Answer, refused, given, unless}
-use Rattle.rules.specs.Steps.{step, steps, wiped}
+use Rattle.rules.specs.Answers.{Answer, given, unless}
+use Rattle.rules.specs.Steps.{steps, wiped}
 use Rattle.rules.specs.declared.Step.{Step}
 use Rattle.rules.specs.declared.Step.the-variants.{Program, Erase}
 

@@ -1,12 +1,11 @@
 -- Bytes shown in hexadecimal are read back as those bytes. Assumes nothing.
-use mathlib.Core.Path.{_≡_, refl, sym, ap, _∙_}
-use mathlib.Core.Bool.{Bool, true, false, cond}
+use mathlib.Core.Path.{_≡_, refl}
 use mathlib.Core.List.{List, [], _∷_}
-use Prim.Native.Nat.{ℕ, zero, suc, _+_, _-_, _*_, _/_, _%_, _≤_, _<_}
+use Prim.Native.Nat.{ℕ, zero, suc, _+_, _-_, _*_, _/_, _%_, _<_}
 use native.Mathlib.Omega.{arith}
-use lib.Dec.{leb, ltb}
+use lib.Dec.{ltb}
 use lib.ListN.{length, getD}
-use borrow.Author.Tests.{lt-ltb, le-ltb, lt-leb, ltb-true, ltb-false}
+use borrow.Author.Tests.{lt-leb, ltb-true, ltb-false}
 use Rattle.rules.specs.Bytes.{Bytes}
 use Rattle.rules.proofs.Tests.{by-cases}
 use Rattle.script.specs.Hex.{hex-digit, pair, hex, hex-value, byte-at}

@@ -1,15 +1,12 @@
 -- How a decimal number goes on from one byte of its word to the next. Assumes nothing.
-use mathlib.Core.Path.{_≡_, refl, sym, _∙_}
-use mathlib.Core.Bool.{Bool, true, false, cond, _&&_}
+use mathlib.Core.Path.{_≡_, refl}
 use mathlib.Core.List.{List, [], _∷_}
 use Prim.Native.Nat.{ℕ, suc, _+_, _-_, _*_, _/_, _^_, _≤_, _<_}
 use native.Mathlib.Omega.{arith}
-use lib.Dec.{leb, ltb}
 use lib.ListN.{length, getD, drop, drop-of-length-le}
 use lib.Seq.{drop-cons}
 use borrow.Author.Tests.{lt-ltb, le-ltb, lt-leb, le-leb}
 use Rattle.script.specs.Numbers.{digit, number-from, number}
-use Rattle.script.specs.declared.words.Number.{Number}
 use Rattle.script.specs.declared.words.Number.the-variants.{Is, Wrong}
 
 -- ---- one digit

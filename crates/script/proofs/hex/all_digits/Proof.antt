@@ -6,7 +6,7 @@ use borrow.Author.Tests.{lt-ltb, le-ltb}
 use Rattle.walks.proofs.Loops.{all-over, all-fails, all-goes}
 use Prim.Native.Nat.{_-_}
 use lib.ListN.{length, drop, getD, drop-of-length-le}
-use mathlib.Core.Path.{_≡_, refl, sym, _∙_}
+use mathlib.Core.Path.{_≡_, sym, _∙_}
 use Rattle.rules.specs.Lists.{all}
 use Rattle.script.specs.Hex.{is-hex-digit, hex-value}
 use borrow.Author.Needs.{needs}
