@@ -17,8 +17,8 @@ all-keep-requires-2 c κs = search needs
 all-keep-requires-3 : tie.Need-all-keep-requires-3
 all-keep-requires-3 c κs = search needs
 
-pairs-keep-requires-2 : tie.Need-pairs-keep-requires-2
-pairs-keep-requires-2 c κs = search needs
+all-are-apart-requires : tie.Need-all-are-apart-requires
+all-are-apart-requires c κs = search needs
 
 six-are-named-requires : tie.Need-six-are-named-requires
 six-are-named-requires c κs = search needs
@@ -41,7 +41,7 @@ returns c =
       c4 .before .before .before .pairs-keep .ensures,
       c4 .before .before .all-keep2 .ensures,
       c4 .before .all-keep3 .ensures,
-      c4 .pairs-keep2 .ensures,
+      c4 .all-are-apart .ensures,
       c .before .before .before .six-are-named .ensures,
       c .before .before .boot-info-is-at-0 .ensures,
       c .before .tables-are-as-told .ensures,
@@ -56,7 +56,7 @@ entries-stand-spec =
     pairs-keep-requires
     all-keep-requires-2
     all-keep-requires-3
-    pairs-keep-requires-2
+    all-are-apart-requires
     six-are-named-requires
     boot-info-is-at-0-requires
     tables-are-as-told-requires

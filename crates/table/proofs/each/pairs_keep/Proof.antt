@@ -1,0 +1,72 @@
+-- `table::each::pairs_keep` meets its contract. The loop's invariant: each two keep the rule if each two that are left do.
+-- Assumes nothing.
+use mathlib.Core.Path.{_≡_, sym, _∙_}
+use Prim.Native.Nat.{_-_, _≤_}
+use native.Mathlib.Omega.{arith}
+use lib.ListN.{drop}
+use borrow.Author.Needs.{needs}
+use Rattle.rules.specs.Lists.{pairwise}
+use Rattle.rules.specs.Table.{rows}
+use Rattle.walks.proofs.Joined.{failed, passed}
+use Rattle.walks.proofs.Entries.{entries-turn, entries-end}
+use Rattle.walks.proofs.Loops.{pairwise-over, pairwise-fails, pairwise-goes}
+use Rattle.table.specs.Rules.{both-keep}
+use Rattle.table.proofs.each.pairs_keep.Statement.{statement}
+use Rattle.table.proofs.each.pairs_keep.Tie as tie
+
+abbrev Inv-loop : tie.InvT-loop
+Inv-loop rule table n i₀ i =
+    (i ≤ n)
+    × (pairwise (both-keep rule) (rows n table) ≡ pairwise (both-keep rule) (drop i (rows n table)))
+
+abbrev μ-loop : tie.MeasureT-loop
+μ-loop rule table n i₀ i = n - i
+
+loop-holds : tie.Need-loop-holds Inv-loop μ-loop
+loop-holds c = search needs
+
+later-keep-requires : tie.Need-later-keep-requires Inv-loop μ-loop
+later-keep-requires c κs = search needs
+
+returns : tie.Need-returns Inv-loop μ-loop
+returns c =
+    let at = c .before .before .before in
+    let a = at .before .before .args in
+    let turn = entries-turn (a .n) (at .loop .i) (a .table .now) (omega arith) in
+    let fails = pairwise-fails (both-keep (a .rule)) turn (failed (c .before .later-keep .ensures) (c .if1 .taken)) in
+    sym (at .loop .inv .1 ∙ fails)
+
+add-i : tie.Need-add-i Inv-loop μ-loop
+add-i c = search needs
+
+loop-less : tie.Need-loop-less Inv-loop μ-loop
+loop-less c = search needs
+
+loop-again : tie.Need-loop-again Inv-loop μ-loop
+loop-again c =
+    let at = c .before .before .before in
+    let a = at .before .before .args in
+    let turn = entries-turn (a .n) (at .loop .i) (a .table .now) (omega arith) in
+    let goes = pairwise-goes (both-keep (a .rule)) turn (passed (c .before .later-keep .ensures) (c .if1 .left)) in
+    (omega arith, at .loop .inv .1 ∙ goes)
+
+returns-2 : tie.Need-returns-2 Inv-loop μ-loop
+returns-2 c =
+    let at = c .before in
+    let a = at .before .before .args in
+    let end = entries-end (a .n) (at .loop .i) (a .table .now) (omega arith) in
+    sym (at .loop .inv .1 ∙ pairwise-over (both-keep (a .rule)) end)
+
+pub pairs-keep-spec : {M : Type 1} → statement M
+pairs-keep-spec =
+    tie.close
+    (tie.spec
+    Inv-loop
+    μ-loop
+    loop-holds
+    later-keep-requires
+    returns
+    add-i
+    loop-less
+    loop-again
+    returns-2)

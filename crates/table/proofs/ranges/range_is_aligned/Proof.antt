@@ -1,0 +1,19 @@
+-- `table::ranges::range_is_aligned` meets its contract. Assumes nothing.
+use borrow.Author.Needs.{needs}
+use Rattle.rules.specs.Bytes.{multiple}
+use Rattle.rules.specs.Table.{range-aligned}
+use Rattle.table.proofs.ranges.range_is_aligned.Statement.{statement}
+use Rattle.table.proofs.ranges.range_is_aligned.Tie as tie
+
+entry-start-requires : tie.Need-entry-start-requires
+entry-start-requires c κs = search needs
+
+entry-size-requires : tie.Need-entry-size-requires
+entry-size-requires c κs = search needs
+
+returns : tie.Need-returns
+unfolding range-aligned multiple
+returns c = rw (c .entry-size .ensures, c .before .entry-start .ensures)
+
+pub range-is-aligned-spec : {M : Type 1} → statement M
+range-is-aligned-spec = tie.close (tie.spec entry-start-requires entry-size-requires returns)
