@@ -1,2 +1,3 @@
 pub mod Ascending
+pub mod Padding
 pub mod Standing

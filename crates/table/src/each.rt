@@ -19,6 +19,7 @@ fn entry_keeps(rule: Rule, table: &[u8], e: EntryNo) -> bool
 {
     match rule {
         Rule::NameRight => naming::name_is_right(table, e),
+        Rule::NamePadded => naming::name_is_padded(table, e),
         Rule::RangeAligned => ranges::range_is_aligned(table, e),
         Rule::RangeInside(len) => ranges::range_is_inside(table, e, len),
     }
@@ -31,6 +32,7 @@ fn pair_keeps(rule: PairRule, table: &[u8], d: EntryNo, e: EntryNo) -> bool
 {
     match rule {
         PairRule::NamesDiffer => naming::names_differ(table, d, e),
+        PairRule::FieldsDiffer => naming::fields_differ(table, d, e),
         PairRule::RangesApart => ranges::ranges_are_apart(table, d, e),
     }
 }

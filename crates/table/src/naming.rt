@@ -1,11 +1,16 @@
 // Rules 3 and 4: names.
+use super::PairRule;
+use super::Rule;
+use super::each;
 use rules::EntryNo;
 ghost use mathlib.Core.Path.{_≡_};
-ghost use Prim.Native.Nat.{_<_};
-ghost use lib.ListN.{length};
+ghost use Prim.Native.Nat.{_≤_, _<_};
+ghost use lib.ListN.{length, drop};
+ghost use Rattle.rules.specs.Lists.{all, pairwise};
 ghost use Rattle.rules.specs.Bytes.{block-size};
-ghost use Rattle.rules.specs.Table.{name-right, names-differ};
+ghost use Rattle.rules.specs.Table.{rows, name-right, names-differ};
 ghost use Rattle.walks.specs.Entries.{entry-at, most-entries};
+ghost use Rattle.table.specs.Padding.{is-zero, padded, fields-differ};
 
 // Rule 3: the name has at least one byte before a zero within the 16.
 pub fn name_is_right(table: &[u8], e: EntryNo) -> bool
@@ -22,4 +27,52 @@ pub fn names_differ(table: &[u8], d: EntryNo, e: EntryNo) -> bool
     ensures { λ r. ⌜ r ≡ names-differ (entry-at (now (table .entry)) (d .0)) (entry-at (now (table .entry)) (e .0)) ⌝ }
 {
     !names::same_name(entries::entry_name(table, d), entries::entry_name(table, e))
+}
+
+// Each two of the first n names differ. Where each is followed by zeros alone, as they mostly are, its field is
+// compared as it stands, eight bytes at a time.
+pub fn all_differ(table: &[u8], n: usize) -> bool
+    requires { ⌜ (length (now table) ≡ block-size) × (n ≤ most-entries) ⌝ }
+    ensures { λ r. ⌜ r ≡ pairwise names-differ (rows n (now (table .entry))) ⌝ }
+{
+    if each::all_keep(Rule::NamePadded, table, n) {
+        return each::pairs_keep(PairRule::FieldsDiffer, table, n);
+    }
+    each::pairs_keep(PairRule::NamesDiffer, table, n)
+}
+
+// The name is followed by zeros alone.
+pub fn name_is_padded(table: &[u8], e: EntryNo) -> bool
+    requires { ⌜ (length (now table) ≡ block-size) × (e .0 < most-entries) ⌝ }
+    ensures { λ r. ⌜ r ≡ padded (entry-at (now (table .entry)) (e .0)) ⌝ }
+{
+    let name = entries::entry_name(table, e);
+    is_zero_from(name, names::name_length(name))
+}
+
+// The bytes from an index on are zeros.
+fn is_zero_from(s: &[u8], from: usize) -> bool
+    ensures { λ r. ⌜ r ≡ all is-zero (drop from (now (s .entry))) ⌝ }
+{
+    let mut i = from;
+    while i < s.len() {
+        if s[i] != 0 {
+            return false;
+        }
+        i += 1;
+    }
+    true
+}
+
+// The name fields differ: mostly their first eight bytes do.
+pub fn fields_differ(table: &[u8], d: EntryNo, e: EntryNo) -> bool
+    requires { ⌜ (length (now table) ≡ block-size) × ((d .0 < most-entries) × (e .0 < most-entries)) ⌝ }
+    ensures { λ r. ⌜ r ≡ fields-differ (entry-at (now (table .entry)) (d .0)) (entry-at (now (table .entry)) (e .0)) ⌝ }
+{
+    let x = entries::entry_name(table, d);
+    let y = entries::entry_name(table, e);
+    if fields::le64(x, 0) != fields::le64(y, 0) {
+        return true;
+    }
+    fields::le64(x, 8) != fields::le64(y, 8)
 }

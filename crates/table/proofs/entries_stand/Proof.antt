@@ -8,8 +8,8 @@ use Rattle.table.proofs.entries_stand.Tie as tie
 all-keep-requires : tie.Need-all-keep-requires
 all-keep-requires c κs = search needs
 
-pairs-keep-requires : tie.Need-pairs-keep-requires
-pairs-keep-requires c κs = search needs
+all-differ-requires : tie.Need-all-differ-requires
+all-differ-requires c κs = search needs
 
 all-keep-requires-2 : tie.Need-all-keep-requires-2
 all-keep-requires-2 c κs = search needs
@@ -38,7 +38,7 @@ returns c =
     let c4 = c .before .before .before .before in
     rw (
       c4 .before .before .before .before .all-keep .ensures,
-      c4 .before .before .before .pairs-keep .ensures,
+      c4 .before .before .before .all-differ .ensures,
       c4 .before .before .all-keep2 .ensures,
       c4 .before .all-keep3 .ensures,
       c4 .all-are-apart .ensures,
@@ -53,7 +53,7 @@ entries-stand-spec =
     tie.close
     (tie.spec
     all-keep-requires
-    pairs-keep-requires
+    all-differ-requires
     all-keep-requires-2
     all-keep-requires-3
     all-are-apart-requires

@@ -13,6 +13,12 @@ names-differ-requires c κs = search needs
 enum-told-2 : tie.Need-enum-told-2
 enum-told-2 c = search needs
 
+fields-differ-requires : tie.Need-fields-differ-requires
+fields-differ-requires c κs = search needs
+
+enum-told-3 : tie.Need-enum-told-3
+enum-told-3 c = search needs
+
 ranges-are-apart-requires : tie.Need-ranges-are-apart-requires
 ranges-are-apart-requires c κs = search needs
 
@@ -22,7 +28,11 @@ returns c = rw (c .before .enum-told .given .1, c .names-differ .ensures)
 
 returns-2 : tie.Need-returns-2
 unfolding both-keep
-returns-2 c = rw (c .before .enum-told2 .given .1, c .ranges-are-apart .ensures)
+returns-2 c = rw (c .before .enum-told2 .given .1, c .fields-differ .ensures)
+
+returns-3 : tie.Need-returns-3
+unfolding both-keep
+returns-3 c = rw (c .before .enum-told3 .given .1, c .ranges-are-apart .ensures)
 
 pub pair-keeps-spec : {M : Type 1} → statement M
 pair-keeps-spec =
@@ -31,6 +41,9 @@ pair-keeps-spec =
     enum-told
     names-differ-requires
     enum-told-2
+    fields-differ-requires
+    enum-told-3
     ranges-are-apart-requires
     returns
-    returns-2)
+    returns-2
+    returns-3)

@@ -1,0 +1,28 @@
+-- `table::naming::name_is_padded` meets its contract. Assumes nothing.
+use mathlib.Core.Path.{_∙_}
+use borrow.Author.Needs.{needs}
+use Rattle.walks.specs.Entries.{entry-at}
+use Rattle.table.proofs.Padding.{padded-zeros}
+use Rattle.table.proofs.naming.name_is_padded.Statement.{statement}
+use Rattle.table.proofs.naming.name_is_padded.Tie as tie
+
+entry-name-requires : tie.Need-entry-name-requires
+entry-name-requires c κs = search needs
+
+name-length-requires : tie.Need-name-length-requires
+name-length-requires c κs = search needs
+
+is-zero-from-requires : tie.Need-is-zero-from-requires
+is-zero-from-requires c κs = search needs
+
+returns : tie.Need-returns
+returns c =
+    let name = c .before .before in
+    let a = name .before .before .args in
+    let field = name .entry-name .ensures in
+    let zeros = padded-zeros (entry-at (a .table .now) (a .e .0)) (rw (field .0) at (field .1)) in
+    rw (c .is-zero-from .ensures, c .before .name-length .ensures .0, field .0) zeros
+
+pub name-is-padded-spec : {M : Type 1} → statement M
+name-is-padded-spec =
+    tie.close (tie.spec entry-name-requires name-length-requires is-zero-from-requires returns)
