@@ -1,3 +1,4 @@
 pub mod Ascending
 pub mod Padding
+pub mod SixFound
 pub mod Standing

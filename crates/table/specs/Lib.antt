@@ -1,3 +1,4 @@
 pub mod Rules
 pub mod Ascending
 pub mod Padding
+pub mod Six

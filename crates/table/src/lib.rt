@@ -60,10 +60,7 @@ fn entries_stand(table: &[u8], n: usize, len: u64, granule: u64, spt0: u64, spt1
         & each::all_keep(Rule::RangeAligned, table, n)
         & each::all_keep(Rule::RangeInside(len), table, n)
         & ranges::all_are_apart(table, n)
-        & six::six_are_named(table, n)
-        & six::boot_info_is_at_0(table, n)
-        & six::tables_are_as_told(table, n, spt0, spt1)
-        & six::blocks_are_on_granules(table, n, granule)
+        & six::six_keep(table, n, granule, spt0, spt1)
 }
 
 // Rule 1: magic and version.

@@ -1,7 +1,9 @@
--- `table::entries_stand` meets its contract: nine tests are the definition's rules 3 to 11. Assumes nothing.
+-- `table::entries_stand` meets its contract: six tests are the definition's rules 3 to 11. Assumes nothing.
 use borrow.Author.Needs.{needs}
-use Rattle.rules.specs.Table.{entries-stand, tables-as-told, blocks-on-granules}
-use Rattle.table.specs.Rules.{keeps, both-keep}
+use Rattle.rules.specs.Numbers.{setting}
+use Rattle.rules.specs.Table.{rows}
+use Rattle.table.specs.Rules.{keeps}
+use Rattle.table.proofs.Standing.{rules-3-to-11}
 use Rattle.table.proofs.entries_stand.Statement.{statement}
 use Rattle.table.proofs.entries_stand.Tie as tie
 
@@ -20,33 +22,23 @@ all-keep-requires-3 c κs = search needs
 all-are-apart-requires : tie.Need-all-are-apart-requires
 all-are-apart-requires c κs = search needs
 
-six-are-named-requires : tie.Need-six-are-named-requires
-six-are-named-requires c κs = search needs
-
-boot-info-is-at-0-requires : tie.Need-boot-info-is-at-0-requires
-boot-info-is-at-0-requires c κs = search needs
-
-tables-are-as-told-requires : tie.Need-tables-are-as-told-requires
-tables-are-as-told-requires c κs = search needs
-
-blocks-are-on-granules-requires : tie.Need-blocks-are-on-granules-requires
-blocks-are-on-granules-requires c κs = search needs
+six-keep-requires : tie.Need-six-keep-requires
+six-keep-requires c κs = search needs
 
 returns : tie.Need-returns
-unfolding entries-stand tables-as-told blocks-on-granules keeps both-keep
+unfolding keeps
 returns c =
-    let c4 = c .before .before .before .before in
+    let c3 = c .before .before in
+    let a = c3 .before .before .before .before .before .args in
     rw (
-      c4 .before .before .before .before .all-keep .ensures,
-      c4 .before .before .before .all-differ .ensures,
-      c4 .before .before .all-keep2 .ensures,
-      c4 .before .all-keep3 .ensures,
-      c4 .all-are-apart .ensures,
-      c .before .before .before .six-are-named .ensures,
-      c .before .before .boot-info-is-at-0 .ensures,
-      c .before .tables-are-as-told .ensures,
-      c .blocks-are-on-granules .ensures,
+      c3 .before .before .before .all-keep .ensures,
+      c3 .before .before .all-differ .ensures,
+      c3 .before .all-keep2 .ensures,
+      c3 .all-keep3 .ensures,
+      c .before .all-are-apart .ensures,
+      c .six-keep .ensures,
     )
+    (rules-3-to-11 (setting (a .granule) (a .spt0) (a .spt1)) (a .len) (rows (a .n) (a .table .now)))
 
 pub entries-stand-spec : {M : Type 1} → statement M
 entries-stand-spec =
@@ -57,8 +49,5 @@ entries-stand-spec =
     all-keep-requires-2
     all-keep-requires-3
     all-are-apart-requires
-    six-are-named-requires
-    boot-info-is-at-0-requires
-    tables-are-as-told-requires
-    blocks-are-on-granules-requires
+    six-keep-requires
     returns)
