@@ -1,11 +1,10 @@
 -- Ranges that ascend do not overlap; the turn and the end of a loop over neighbours. Assumes nothing.
 use mathlib.Core.Path.{_≡_, refl}
-use mathlib.Core.Bool.{Bool, true, false, _&&_, _||_}
+use mathlib.Core.Bool.{Bool, true, false}
 use mathlib.Core.List.{List, [], _∷_}
 use Prim.Native.Nat.{_+_}
 use native.Mathlib.Omega.{arith}
-use lib.Dec.{leb}
-use lib.ListN.{length, drop}
+use lib.ListN.{drop}
 use borrow.Author.Tests.{le-leb, leb-true}
 use Rattle.rules.specs.Lists.{all, pairwise}
 use Rattle.rules.specs.Table.{Entry, ranges-apart}

@@ -1,5 +1,4 @@
 -- `table::naming::name_is_padded` meets its contract. Assumes nothing.
-use mathlib.Core.Path.{_∙_}
 use borrow.Author.Needs.{needs}
 use Rattle.walks.specs.Entries.{entry-at}
 use Rattle.table.proofs.Padding.{padded-zeros}
