@@ -1,4 +1,5 @@
 // One copy of the sub-partition table: the eleven rules by which it stands, a function for each.
+use rules::EntryNo;
 ghost use mathlib.Core.Path.{_≡_};
 ghost use Prim.Native.Nat.{_+_, _≤_, _<_};
 ghost use lib.Dec.{leb};
@@ -32,6 +33,16 @@ pub enum PairRule {
     NamesDiffer,
     FieldsDiffer,
     RangesApart,
+}
+
+// The entry numbers of BOOT_INFO, FACTORY_IMAGE, SPT0, SPT1, CPB0 and CPB1.
+pub struct SixEntries {
+    pub boot: EntryNo,
+    pub factory: EntryNo,
+    pub table0: EntryNo,
+    pub table1: EntryNo,
+    pub pointers0: EntryNo,
+    pub pointers1: EntryNo,
 }
 
 // The copy at an address of the image stands.
