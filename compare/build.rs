@@ -9,6 +9,7 @@ fn main() {
     }
     let directory = env::var("UPDATER_LIBRARY_DIRECTORY")
         .expect("UPDATER_LIBRARY_DIRECTORY: the directory of liblinked.a");
+    println!("cargo::rerun-if-changed={directory}/liblinked.a");
     println!("cargo::rustc-link-search=native={directory}");
     println!("cargo::rustc-link-lib=static=linked");
 }

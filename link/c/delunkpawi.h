@@ -62,7 +62,8 @@ uint8_t delunkpawi_slot_facts(const uint8_t *image, size_t image_length, size_t 
 uint8_t delunkpawi_slot_name(const uint8_t *image, size_t image_length, size_t granule, size_t spt0, size_t spt1,
                              uint32_t slot, uint8_t *name, size_t name_length, size_t *count);
 
-/* ---- Starting a job. The image is only read. The job, its steps not yet done, is left in the lent buffer. */
+/* ---- Starting a job. The image is only read. The job, its steps not yet done, is left in the lent buffer; bytes of it
+   that the job does not use stay as they were. */
 
 size_t delunkpawi_job_size(void);
 

@@ -1,5 +1,6 @@
 pub mod Putting
-pub mod Packing
+pub mod OrderPacked
 pub mod Walking
+pub mod Noting
 pub mod Naming
 pub mod JobSteps

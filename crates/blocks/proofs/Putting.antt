@@ -3,26 +3,19 @@ use mathlib.Core.Path.{_≡_, refl, sym, ap, _∙_}
 use mathlib.Core.List.{List, [], _∷_, _++_, append-assoc, append-nil}
 use Prim.Native.Nat.{ℕ, suc, _+_, _*_, _-_, _≤_, _<_}
 use native.Mathlib.Omega.{arith}
-use lib.ListN.{length, take, drop, replicate, length-append, length-take, length-drop, length-replicate, drop-of-length-le, replicate-append-replicate}
-use lib.Seq.{paste, take-at, drop-at, drop-append-add, drop-append-le, take-length, length-take-le}
+use lib.ListN.{length, take, drop, replicate, length-append, length-drop, length-replicate, drop-of-length-le, replicate-append-replicate}
+use lib.Seq.{take-at, drop-at, drop-append-add, drop-append-le, length-take-le}
 use Rattle.rules.specs.Bytes.{bytes-of, block-size, erased-byte}
 use Rattle.rules.specs.Pointers.{place-offset, place-count}
 use Rattle.rules.specs.Commands.{pointer-bytes, filled, padded-name, put-name}
+use Rattle.rules.specs.Final.{put-at}
 use Rattle.rules.proofs.Words.{length-bytes-of}
 use Rattle.rules.proofs.Filling.{length-pointer-bytes}
-use Rattle.blocks.specs.Put.{erased-block, put}
-
-pub pasted : (b : List ℕ) (at : ℕ) (vs : List ℕ) → paste b at vs (length vs) ≡ put at vs b
-unfolding put
-pasted b at vs = rw (append-assoc, take-length)
-
-pub length-put : (at : ℕ) (vs b : List ℕ) → at + length vs ≤ length b → length (put at vs b) ≡ length b
-unfolding put
-length-put at vs b h = simp (length-append, length-take, length-drop) (omega arith)
+use Rattle.blocks.specs.Made.{erased-block}
 
 -- a block of the same length takes the place of all bytes
-pub put-whole : (vs b : List ℕ) → length b ≡ length vs → put 0 vs b ≡ vs
-unfolding put
+put-whole : (vs b : List ℕ) → length b ≡ length vs → put-at 0 vs b ≡ vs
+unfolding put-at
 put-whole vs b l =
     let e : drop (0 + length vs) b ≡ [] = drop-of-length-le b {i = 0 + length vs} (omega arith) in
     rw e (append-nil vs)
@@ -40,16 +33,16 @@ module _ {A : Type 0} (a : A) where
 
 -- the last bytes put, and others in between
 module _ (a b c w : List ℕ) (at : ℕ) (ends : length (a ++ b) ≡ at) (same-length : length c ≡ length w) where
-  put-last : put at w (a ++ (b ++ c)) ≡ a ++ (b ++ w)
-  unfolding put
+  put-last : put-at at w (a ++ (b ++ c)) ≡ a ++ (b ++ w)
+  unfolding put-at
   put-last =
       let e : a ++ (b ++ c) ≡ (a ++ b) ++ c = sym (append-assoc a b c) in
       let none : drop (at + length w) ((a ++ b) ++ c) ≡ [] =
       drop-of-length-le ((a ++ b) ++ c) {i = at + length w} (rw (length-append (a ++ b) c) (omega arith)) in
       rw (e, take-at (a ++ b) c at ends, none, append-nil, append-assoc)
 
-  put-between : (s t : List ℕ) → put at w (a ++ (b ++ ((c ++ s) ++ t))) ≡ a ++ ((b ++ w) ++ (s ++ t))
-  unfolding put
+  put-between : (s t : List ℕ) → put-at at w (a ++ (b ++ ((c ++ s) ++ t))) ≡ a ++ ((b ++ w) ++ (s ++ t))
+  unfolding put-at
   put-between s t =
       let e : a ++ (b ++ ((c ++ s) ++ t)) ≡ (a ++ b) ++ (c ++ (s ++ t)) = simp append-assoc in
       let after : drop (at + length w) ((a ++ b) ++ (c ++ (s ++ t))) ≡ s ++ t =
@@ -62,9 +55,9 @@ module _ (p : List ℕ) (size offset middle rest : ℕ) (whole : length p ≡ si
   length-front : length (take offset p) ≡ offset
   length-front = length-take-le offset p (omega arith)
 
-  front-put : put 0 (take offset p) (replicate size erased-byte)
+  front-put : put-at 0 (take offset p) (replicate size erased-byte)
       ≡ take offset p ++ (replicate middle erased-byte ++ replicate rest erased-byte)
-  unfolding put
+  unfolding put-at
   front-put =
       let e : size ≡ 0 + offset + (middle + rest) = omega arith in
       rw (
@@ -76,13 +69,13 @@ module _ (p : List ℕ) (size offset middle rest : ℕ) (whole : length p ≡ si
       )
 
   pub outside-kept : (tail : List ℕ) → tail ≡ drop (offset + middle) p
-      → put (offset + middle) tail (put 0 (take offset p) (replicate size erased-byte))
+      → put-at (offset + middle) tail (put-at 0 (take offset p) (replicate size erased-byte))
       ≡ take offset p ++ (replicate middle erased-byte ++ drop (offset + middle) p)
   outside-kept tail e =
       let front = take offset p in
       let erased = replicate middle erased-byte in
       let after = replicate rest erased-byte in
-      ap (put (offset + middle) tail) front-put
+      ap (put-at (offset + middle) tail) front-put
       ∙ put-last front erased after tail (offset + middle)
       (length-append front erased ∙ omega (arith, length-front, length-replicate middle erased-byte))
       (rw e (length-replicate rest erased-byte ∙ sym (length-drop (offset + middle) p ∙ omega arith)))
@@ -95,7 +88,7 @@ pub emptied-block : (p : List ℕ) (offset count : ℕ) (tail erased : List ℕ)
     → count ≡ place-count p
     → tail ≡ drop (offset + 8 * count) p
     → erased ≡ erased-block
-    → put (offset + 8 * count) tail (put 0 (take offset p) erased) ≡ filled p []
+    → put-at (offset + 8 * count) tail (put-at 0 (take offset p) erased) ≡ filled p []
 unfolding erased-block filled pointer-bytes
 emptied-block p offset count tail erased whole fits eo ec et ee =
     let none-filled : place-count p - 0 ≡ place-count p = omega arith in
@@ -106,14 +99,14 @@ emptied-block p offset count tail erased whole fits eo ec et ee =
 
 -- ---- a copy, and a copy with another name
 
-pub copied-block : (vs erased : List ℕ) → length vs ≡ block-size → erased ≡ erased-block → put 0 vs erased ≡ vs
+pub copied-block : (vs erased : List ℕ) → length vs ≡ block-size → erased ≡ erased-block → put-at 0 vs erased ≡ vs
 unfolding erased-block
 copied-block vs erased whole e = put-whole vs erased (rw e (length-replicate block-size erased-byte ∙ sym whole))
 
 pub named-block : (t n : List ℕ) (row at : ℕ) → length t ≡ block-size → at + 16 ≤ block-size → length n ≤ 16
     → at ≡ 0x20 + 32 * row
-    → put at n (put at (replicate 16 0) t) ≡ put-name t row n
-unfolding put put-name padded-name
+    → put-at at n (put-at at (replicate 16 0) t) ≡ put-name t row n
+unfolding put-at put-name padded-name
 named-block t n row at whole inside short e =
     let front : length (take at t) ≡ at = length-take-le at t (omega arith) in
     let rest : List ℕ = drop (at + 16) t in
@@ -137,7 +130,7 @@ pointer-bytes-last (u ∷ us) v = rw (pointer-bytes-last us v) (sym (append-asso
     (bytes-of 8 v)))
 
 pub pointer-put : (p us : List ℕ) (v : ℕ) → place-offset p ≤ length p → length us < place-count p
-    → put (place-offset p + 8 * length us) (bytes-of 8 v) (filled p us) ≡ filled p (us ++ (v ∷ []))
+    → put-at (place-offset p + 8 * length us) (bytes-of 8 v) (filled p us) ≡ filled p (us ++ (v ∷ []))
 unfolding filled
 pointer-put p us v inside room =
     let front = take (place-offset p) p in
@@ -152,3 +145,16 @@ pointer-put p us v inside room =
     (place-offset p + 8 * length us) ends
     (length-replicate 8 erased-byte ∙ sym (length-bytes-of 8 v)) (replicate rest erased-byte)
     (drop (place-offset p + 8 * place-count p) p))
+
+-- the same as code puts it: the eight bytes w, behind the pointers that are in the block b
+pub pointer-put-after : (p us b w after : List ℕ) (v offset count : ℕ)
+    → place-offset p ≤ length p
+    → count < place-count p
+    → b ≡ filled p us
+    → count ≡ length us
+    → offset ≡ place-offset p
+    → w ≡ bytes-of 8 v
+    → after ≡ put-at (offset + 8 * count) w b
+    → after ≡ filled p (us ++ (v ∷ []))
+pointer-put-after p us b w after v offset count inside room eb ec eo ew ea =
+    rw (ea, eb, ec, eo, ew) (pointer-put p us v inside (omega arith))

@@ -1,57 +1,27 @@
--- The places of a pointer block, walked down for the free place and the slot that comes first, and up for the places
--- that give a slot. Assumes nothing.
+-- The places of a pointer block, walked down for the slot that comes first, and up for the places that give a slot.
+-- Assumes nothing.
 use mathlib.Core.Path.{_≡_, refl, sym, ap, _∙_}
 use mathlib.Core.Bool.{Bool, true, false, cond, _||_}
-use mathlib.Core.List.{List, [], _∷_, _++_, append-assoc, append-nil}
+use mathlib.Core.List.{List, [], _∷_, _++_}
 use mathlib.Core.Option.{Option, none, some}
-use Prim.Native.Nat.{ℕ, zero, suc, _+_, _-_, _≤_, _<_}
+use Prim.Native.Nat.{ℕ, zero, suc, _+_, _<_}
 use native.Mathlib.Numerals.{add-one}
 use native.Mathlib.Omega.{arith}
 use lib.Dec.{eqb, ltb}
 use borrow.Author.Tests.{eqb-true, lt-ltb}
-use lib.ListN.{length, take, drop, length-set}
-use lib.Seq.{take-suc-set}
-use Rattle.rules.specs.Lists.{member}
-use Rattle.rules.specs.Pointers.{place-count, places, judged, is-erased, slot-given, gives, add-last, order}
-use Rattle.rules.specs.Commands.{below, free-place, is-first, giving}
+use lib.ListN.{length, getD, drop}
+use Rattle.rules.specs.Lists.{member, all}
+use Rattle.rules.specs.Pointers.{place-count, places, all-ones, judged, slot-given, gives, add-last, order}
+use Rattle.rules.specs.Commands.{is-first, giving}
 use Rattle.rules.specs.declared.Place.{Place}
 use Rattle.rules.specs.declared.Place.the-variants.{Erased, Live, Dead}
-use Rattle.rules.proofs.Tests.{by-cases}
+use Rattle.rules.proofs.Tests.{by-cases, clash, and-true}
+use Rattle.places.specs.StandingPointers.{FreeFrom}
 use Rattle.places.specs.Added.{place-value}
-use Rattle.places.proofs.Values.{place-turn, place-over}
-use Rattle.places.proofs.Order.{member-last}
+use Rattle.places.proofs.Values.{place-turn}
+use Rattle.places.proofs.BootOrder.{live-start, member-last}
 use Rattle.walks.proofs.Joined.{or-with-false}
-use Rattle.blocks.specs.Walked.{is-live, noted}
-use Rattle.blocks.specs.declared.Noted.{Noted}
-
--- ---- the free place, from the last place down
-
-pub free-none : (starts p : List ℕ) → free-place starts (drop (place-count p) (places p)) ≡ 0
-unfolding free-place
-free-none starts p = rw (place-over p (place-count p) (omega arith))
-
-below-more : (t : Bool) (n : ℕ) → below t (suc n) ≡ suc (suc n)
-unfolding below
-below-more true n = refl
-below-more false n = refl
-
-free-above : (starts vs : List ℕ) (k n : ℕ) → free-place starts (drop k vs) ≡ suc n → free-place starts vs ≡ k + suc n
-unfolding free-place
-free-above starts vs zero n h = h ∙ omega arith
-free-above starts [] (suc k) n h = absurd (omega arith)
-free-above starts (v ∷ vs) (suc k) n h =
-    let e : k + suc n ≡ suc (k + n) = omega arith in
-    rw (free-above starts vs k n h, e, below-more) (omega arith)
-
-module _ (starts p : List ℕ) (k : ℕ) (within : k < place-count p) (above : free-place starts (drop (k + 1)
-    (places p)) ≡ 0) where
-  pub free-goes : is-erased (judged starts (place-value p k)) ≡ true → free-place starts (drop k (places p)) ≡ 0
-  unfolding free-place below
-  free-goes t = rw (place-turn p k within, above, t)
-
-  pub free-found : is-erased (judged starts (place-value p k)) ≡ false → free-place starts (places p) ≡ k + 1
-  unfolding free-place below
-  free-found t = free-above starts (places p) k 0 (rw (place-turn p k within, above, t))
+use Rattle.blocks.specs.Walked.{is-live}
 
 -- ---- the slot that comes first, from the last place down
 
@@ -98,38 +68,43 @@ module _ (starts p : List ℕ) (k : ℕ) (within : k < place-count p) (above : o
 
 -- ---- the places that give a slot, from place 0 up
 
-noted-more : (starts : List ℕ) (s k v : ℕ) (vs : List ℕ) (found : Noted) (t : Bool)
-    → t ≡ gives s (judged starts v)
-    → found .count < length (found .places)
-    → take (found .count) (found .places) ++ giving starts s k (v ∷ vs)
-    ≡ take (noted t k found .count) (noted t k found .places) ++ giving starts s (suc k) vs
-unfolding giving noted
-noted-more starts s k v vs found true e room =
-    rw (← e, add-one, take-suc-set (found .places) (found .count) k room, append-assoc)
-noted-more starts s k v vs found false e room = rw (← e)
+-- a place that gives a slot has its start
+gives-start : (starts : List ℕ) (k v : ℕ) → gives k (judged starts v) ≡ true → v ≡ getD starts k 0
+gives-start starts k v h = by (judged starts v) refl
+  where
+    by : (j : Place) → judged starts v ≡ j → v ≡ getD starts k 0
+    by Erased e = unfold gives in absurd (clash false (rw e at h) refl)
+    by Dead e = unfold gives in absurd (clash false (rw e at h) refl)
+    by (Live s) e = unfold gives in rw (eqb-true k (s .0) (rw e at h)) (sym (live-start starts v s e))
 
-noted-room : (t : Bool) (k : ℕ) (found : Noted) → length (noted t k found .places) ≡ length (found .places)
-unfolding noted
-noted-room true k found = simp length-set
-noted-room false k found = refl
+pub other-value : (starts : List ℕ) (k v start : ℕ) → start ≡ getD starts k 0 → (v ≡ start → ⊥)
+    → gives k (judged starts v) ≡ false
+other-value starts k v start e other =
+    by-cases (gives k (judged starts v)) (λ t. absurd (other (gives-start starts k v t ∙ sym e))) (λ t. t)
 
-module _ (starts : List ℕ) (s : ℕ) (p : List ℕ) (k : ℕ) (found after : Noted) (t : Bool) (within : k < place-count p)
-    (room : found .count < length (found .places)) (wanted : t ≡ gives s (judged starts (place-value p k)))
-    (noted-now : after ≡ noted t k found) where
-  pub giving-goes : take (found .count) (found .places) ++ giving starts s k (drop k (places p))
-      ≡ take (after .count) (after .places) ++ giving starts s (k + 1) (drop (k + 1) (places p))
-  giving-goes =
-      rw (noted-now, place-turn p k within, add-one)
-      (rw add-one at (noted-more starts s k (place-value p k) (drop (k + 1) (places p)) found t wanted room))
+-- nor does an erased one
+none-give : (starts : List ℕ) (k i : ℕ) (vs : List ℕ) → all all-ones vs ≡ true → giving starts k i vs ≡ []
+unfolding all giving judged gives
+none-give starts k i [] h = refl
+none-give starts k i (v ∷ vs) h =
+    let (one, more) = and-true (all-ones v) (all all-ones vs) h in
+    rw (one, none-give starts k (suc i) vs more)
 
-  pub room-kept : length (after .places) ≡ length (found .places)
-  room-kept = rw noted-now (noted-room t k found)
+module _ (starts : List ℕ) (s : ℕ) (p : List ℕ) (k : ℕ) where
+  pub giving-goes : k < place-count p → gives s (judged starts (place-value p k)) ≡ false
+      → giving starts s k (drop k (places p)) ≡ giving starts s (k + 1) (drop (k + 1) (places p))
+  unfolding giving
+  giving-goes within t = rw (place-turn p k within, t, add-one)
 
-pub giving-over : (starts : List ℕ) (s : ℕ) (p : List ℕ) (k : ℕ) (found : Noted) → place-count p ≤ k
-    → take (found .count) (found .places) ++ giving starts s k (drop k (places p)) ≡ take (found .count)
-    (found .places)
-unfolding giving
-giving-over starts s p k found over = rw (place-over p k over, append-nil)
+  pub giving-here : k < place-count p → gives s (judged starts (place-value p k)) ≡ true
+      → giving starts s k (drop k (places p)) ≡ k ∷ giving starts s (k + 1) (drop (k + 1) (places p))
+  unfolding giving
+  giving-here within t = rw (place-turn p k within, t, add-one)
+
+  pub giving-over : FreeFrom p k → giving starts s k (drop k (places p)) ≡ []
+  giving-over free = none-give starts s k (drop k (places p)) (free .erased)
+
+-- ---- a slot in the order
 
 or-with-true : (t : Bool) → t || true ≡ true
 or-with-true true = refl

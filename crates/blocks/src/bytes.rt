@@ -3,7 +3,8 @@ ghost use mathlib.Core.Path.{_≡_};
 ghost use Prim.Native.Nat.{_+_, _%_, _≤_};
 ghost use lib.ListN.{length};
 ghost use Rattle.rules.specs.Bytes.{bytes-of, block-size};
-ghost use Rattle.blocks.specs.Put.{erased-block, put};
+ghost use Rattle.rules.specs.Final.{put-at};
+ghost use Rattle.blocks.specs.Made.{erased-block};
 
 pub fn erased_block() -> [u8; 4096]
     ensures { λ r. ⌜ r ≡ erased-block ⌝ }
@@ -14,14 +15,10 @@ pub fn erased_block() -> [u8; 4096]
 // The block with these bytes at an offset.
 pub fn put(block: [u8; 4096], at: usize, given: &[u8]) -> [u8; 4096]
     requires { ⌜ at + length (now given) ≤ block-size ⌝ }
-    ensures { λ r. ⌜ r ≡ put at (now (given .entry)) block ⌝ }
+    ensures { λ r. ⌜ r ≡ put-at at (now (given .entry)) block ⌝ }
 {
     let mut b = block;
-    let mut i = 0;
-    while i < given.len() {
-        b[at + i] = given[i];
-        i += 1;
-    }
+    fields::stores::copy(&mut b, at, given);
     b
 }
 

@@ -1,12 +1,13 @@
 // What a command makes up beforehand: blocks by value, places, and the jobs that carry them.
 pub mod bytes; // bytes put into a block
-pub mod pointers; // the places of a pointer block, and a block with another order
+pub mod pointers; // the places of a pointer block
+pub mod packing; // a pointer block with another order
 pub mod tables; // a table with another name in an entry
 pub mod made; // jobs
 
-// The numbers of some places, in the front of an array.
+// The numbers of some places, two bytes each, in the front of an array.
 pub struct Noted {
-    pub places: [u16; 508],
+    pub places: [u8; 1016],
     pub count: usize,
 }
 

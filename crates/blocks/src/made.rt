@@ -7,9 +7,10 @@ use jobs::Plan;
 ghost use mathlib.Core.Path.{_≡_};
 ghost use mathlib.Core.Bool.{Bool, cond};
 ghost use mathlib.Core.List.{[], _++_};
-ghost use lib.ListN.{take};
+ghost use Prim.Native.Nat.{_≤_};
 ghost use Rattle.rules.specs.Steps.{rewrite-pair};
 ghost use Rattle.rules.specs.Commands.{into-places};
+ghost use Rattle.jobs.specs.Jobs.{place-room, numbers-from};
 ghost use Rattle.jobs.specs.declared.Kind.the-variants.{Nothing, Rewrite};
 ghost use Rattle.blocks.specs.Made.{Lists, no-job, rewriting};
 
@@ -31,7 +32,7 @@ pub fn no_job() -> Job
         done: 0,
         first: bytes::erased_block(),
         second: bytes::erased_block(),
-        places: [0; 508],
+        places: [0; 1016],
         value: [0; 8],
     }
 }
@@ -65,7 +66,7 @@ pub fn rewrites(len: usize, granule: usize, x: Rewriting, y: Rewriting) -> Job
         done: 0,
         first: first,
         second: second,
-        places: [0; 508],
+        places: [0; 1016],
         value: [0; 8],
     }
 }
@@ -105,20 +106,22 @@ pub fn pair_rewritten(len: usize, granule: usize, a0: u32, a1: u32, block: [u8; 
     rewrites(len, granule, x, y)
 }
 
-// Eight bytes into the first places of an array, in the block at one address, then in the block at another.
+// Eight bytes into the places of which an array has the numbers in front, in the block at one address, then in the block at another.
 pub fn into_places(
     len: usize,
     granule: usize,
     offset: u32,
     at: u32,
     after: u32,
-    places: [u16; 508],
+    places: [u8; 1016],
     count: usize,
     value: [u8; 8],
 ) -> Job
+    requires { ⌜ count ≤ place-room ⌝ }
     ensures { λ r. ⌜
         Lists r len granule
-        (into-places at offset value (take count places) ++ into-places after offset value (take count places))
+        (into-places at offset value (numbers-from count places)
+        ++ into-places after offset value (numbers-from count places))
         ⌝ }
 {
     Job {

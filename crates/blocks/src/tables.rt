@@ -3,6 +3,7 @@
 use super::bytes;
 use rules::EntryNo;
 use rules::SlotNo;
+use slots::LastSlots;
 ghost use mathlib.Core.Path.{_≡_};
 ghost use mathlib.Core.Bool.{Bool, true};
 ghost use Prim.Native.Nat.{_≤_, _<_};
@@ -12,13 +13,17 @@ ghost use Rattle.rules.specs.Bytes.{block-size, up-to-zero};
 ghost use Rattle.rules.specs.Table.{rows, slots, slot-starts};
 ghost use Rattle.rules.specs.Commands.{half-cleared-names, put-name, name-allowed, name-free};
 ghost use Rattle.walks.specs.Entries.{most-entries};
+ghost use Rattle.slots.specs.Ends.{Ends};
 
 // Where a slot starts.
-pub fn slot_start(t: &[u8], n: usize, slot: SlotNo) -> u64
-    requires { ⌜ ((length (now t) ≡ block-size) × (n ≤ most-entries)) × (slot .0 < length (slots (rows n (now t)))) ⌝ }
+pub fn slot_start(t: &[u8], n: usize, last: LastSlots, slot: SlotNo) -> u64
+    requires { ⌜
+        (((length (now t) ≡ block-size) × (n ≤ most-entries)) × Ends (now t) n last)
+        × (slot .0 < length (slots (rows n (now t))))
+        ⌝ }
     ensures { λ r. ⌜ r ≡ getD (slot-starts (rows n (now (t .entry)))) (slot .0) 0 ⌝ }
 {
-    entries::entry_start(t, slots::slot_row(t, n, slot))
+    entries::entry_start(t, slots::row_of(t, n, last, slot))
 }
 
 // ---- a start half cleared

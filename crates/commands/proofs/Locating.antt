@@ -1,7 +1,7 @@
 -- What a view that was given says of where the blocks are. Assumes nothing.
 use mathlib.Core.Path.{_≡_}
 use mathlib.Core.List.{List}
-use Prim.Native.Nat.{ℕ}
+use Prim.Native.Nat.{ℕ, _≤_}
 use native.Mathlib.Omega.{arith}
 use lib.ListN.{length}
 use Rattle.rules.specs.Bytes.{block, block-size}
@@ -13,6 +13,9 @@ use Rattle.rules.specs.declared.View.{View}
 use Rattle.rules.proofs.Invariant.{granule-holds-block}
 use Rattle.rules.proofs.SlotStarts.{length-fits}
 use Rattle.reading.proofs.Seen.{seen, blocks-inside, table-followed, pointers-inside, pointers-read-stand}
+use Rattle.walks.specs.Entries.{most-entries}
+use Rattle.slots.specs.Ends.{Ends}
+use Rattle.slots.specs.declared.LastSlots.{LastSlots}
 use Rattle.blocks.specs.Walked.{Readable}
 use Rattle.commands.specs.Asked.{Located}
 
@@ -34,15 +37,23 @@ located s img v h =
       short = length-fits (length img) (k .long);
     }
 
+-- the table read has no more entries than there is room for
+pub few-entries : (img : List ℕ) (v : View) (t : List ℕ) (n : ℕ) → Located img v → t ≡ block img (v .table)
+    → n ≡ entry-count t
+    → n ≤ most-entries
+few-entries img v t n l et en = rw (en, et) (l .count-right)
+
 -- the table and the pointer block read
-pub readable : (img : List ℕ) (v : View) (t p : List ℕ) (n : ℕ) → Located img v
+pub readable : (img : List ℕ) (v : View) (t p : List ℕ) (n : ℕ) (last : LastSlots) → Located img v
     → (t ≡ block img (v .table)) × (length t ≡ block-size)
     → (p ≡ block img (v .pointers)) × (length p ≡ block-size)
     → n ≡ entry-count t
-    → Readable t n p
-readable img v t p n l (et, lt) (ep, lp) en = record {
+    → Ends t n last
+    → Readable t n last p
+readable img v t p n last l (et, lt) (ep, lp) en ends = record {
   whole = lt;
-  few = rw (en, et) (l .count-right);
+  few = few-entries img v t n l et en;
+  ends = ends;
   pointers = record { whole = lp; stands = rw ep (l .stand) };
 }
 

@@ -4,11 +4,13 @@ use super::Outcome;
 use super::refusals;
 use blocks::bytes;
 use blocks::made;
+use blocks::packing;
 use blocks::pointers;
 use blocks::tables;
 use jobs::Job;
 use rules::SlotNo;
 use rules::View;
+use slots::LastSlots;
 ghost use mathlib.Core.Path.{_≡_};
 ghost use Prim.Native.Nat.{_<_};
 ghost use lib.ListN.{length};
@@ -38,9 +40,11 @@ pub fn enable_by(image: &[u8], v: View, granule: usize, slot: SlotNo) -> Begun
             let t = fields::block_at(image, table_at);
             let p = fields::block_at(image, pointers_at);
             let n = entries::entry_count(t);
+            let last = slots::last_slots(t, n);
             refusals::begun(enable_job(
                 t,
                 n,
+                last,
                 p,
                 image.len(),
                 granule,
@@ -56,6 +60,7 @@ pub fn enable_by(image: &[u8], v: View, granule: usize, slot: SlotNo) -> Begun
 fn enable_job(
     t: &[u8],
     n: usize,
+    last: LastSlots,
     p: &[u8],
     len: usize,
     granule: usize,
@@ -63,16 +68,16 @@ fn enable_job(
     cpb1: u32,
     slot: SlotNo,
 ) -> Job
-    requires { ⌜ Readable (now t) n (now p) × (slot .0 < length (slots (rows n (now t)))) ⌝ }
+    requires { ⌜ Readable (now t) n last (now p) × (slot .0 < length (slots (rows n (now t)))) ⌝ }
     ensures { λ r. ⌜
         Lists r len granule (enable-steps cpb0 cpb1 (slot-starts (rows n (now (t .entry)))) (now (p .entry)) (slot .0))
         ⌝ }
 {
-    if pointers::comes_first(t, n, p, slot) {
+    let place = places::free_place(p);
+    if pointers::comes_first(t, n, last, p, place, slot) {
         return made::no_steps(len, granule);
     }
-    let start = tables::slot_start(t, n, slot);
-    let place = pointers::free_place(t, n, p);
+    let start = tables::slot_start(t, n, last, slot);
     if place < places::place_count(p) {
         let one = pointers::one_place(place);
         let numbers = one.places;
@@ -93,6 +98,6 @@ fn enable_job(
         granule,
         cpb0,
         cpb1,
-        pointers::order_with_first(t, n, p, slot, start),
+        packing::order_with_first(t, n, last, p, slot, start),
     )
 }

@@ -4,6 +4,8 @@ ghost use Prim.Native.Nat.{_+_, _≤_, _<_};
 ghost use lib.ListN.{length};
 ghost use Rattle.rules.specs.Bytes.{field, block, block-size};
 
+pub mod stores; // numbers and bytes into lent bytes
+
 // The length of a table and of a pointer block, and the unit of every partition.
 pub const BLOCK_SIZE: usize = 4096;
 

@@ -1,14 +1,14 @@
 -- A small job's bytes, and bytes that hold no job, to be checked by hand. Assumes nothing.
 use mathlib.Core.Path.{_≡_, refl}
-use mathlib.Core.List.{List, [], _∷_, _++_}
-use Prim.Native.Nat.{ℕ}
+use mathlib.Core.List.{[], _∷_, _++_}
+use Prim.Native.Nat.{_*_}
 use lib.ListN.{replicate}
 use Rattle.rules.specs.Bytes.{block-size, bytes-of}
 use Rattle.rules.specs.Answers.{refused, unless}
-use Rattle.jobs.specs.Parts.{place-room}
+use Rattle.jobs.specs.Jobs.{place-room}
 use Rattle.jobs.specs.declared.Job.{Job}
 use Rattle.jobs.specs.declared.Kind.the-variants.{Rewrite, Places}
-use Rattle.job_bytes.specs.Form.{kind-number, numbers-encoded, malformed, decoded}
+use Rattle.job_bytes.specs.Form.{kind-number, sizes-encoded, addresses-encoded, kinds-encoded, numbers-encoded, malformed, holds-job, decoded}
 
 abbrev sample : Job
 sample = record {
@@ -25,12 +25,12 @@ sample = record {
   done = 5;
   first = replicate block-size 0xFF;
   second = replicate block-size 0xFF;
-  places = replicate place-room 0;
+  places = replicate (2 * place-room) 0;
   value = replicate 8 0;
 }
 
 pub sample-numbers :
-    numbers-encoded sample
+    numbers-encoded (sample .plan) (sample .done)
     ≡ (0x00 ∷ 0x00 ∷ 0x01 ∷ 0 ∷ 0 ∷ 0 ∷ 0 ∷ 0 ∷ [])
     ++ ((0x00 ∷ 0x10 ∷ 0 ∷ 0 ∷ 0 ∷ 0 ∷ 0 ∷ 0 ∷ [])
     ++ ((1 ∷ 0 ∷ 0 ∷ 0 ∷ 0 ∷ 0 ∷ 0 ∷ 0 ∷ [])
@@ -39,10 +39,10 @@ pub sample-numbers :
     ++ ((0x00 ∷ 0x70 ∷ 0 ∷ 0 ∷ [])
     ++ ((0x00 ∷ 0x60 ∷ 0 ∷ 0 ∷ [])
     ++ ((2 ∷ 0 ∷ []) ++ (1 ∷ 0 ∷ []))))))))
-unfolding numbers-encoded kind-number bytes-of
+unfolding numbers-encoded sizes-encoded addresses-encoded kinds-encoded kind-number bytes-of
 sample-numbers = refl
 
 -- no bytes at all
 pub nothing-held : decoded [] ≡ refused malformed
-unfolding decoded unless
+unfolding decoded unless holds-job
 nothing-held = refl

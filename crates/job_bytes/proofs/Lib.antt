@@ -1,6 +1,6 @@
 pub mod Numbers
-pub mod PlaceNumbers
 pub mod RoundTrip
-pub mod Encoding
-pub mod Decoding
+pub mod Filling
+pub mod JobOver
+pub mod Advancing
 pub mod Examples

@@ -2,24 +2,24 @@
 use mathlib.Core.Path.{_≡_, refl}
 use mathlib.Core.Bool.{true}
 use mathlib.Core.List.{List, _++_, append-assoc}
-use Prim.Native.Nat.{ℕ, _^_, _<_}
+use Prim.Native.Nat.{ℕ, _*_, _^_, _<_}
 use native.Mathlib.Omega.{arith}
 use lib.Dec.{leb}
-use lib.ListN.{length, getD, take, drop, length-append}
+use lib.ListN.{length, take, drop, length-append}
 use lib.Seq.{take-at, take-all}
 use borrow.Author.Tests.{eq-eqb}
 use Rattle.rules.specs.Bytes.{block-size, bytes-of, field}
 use Rattle.rules.specs.Answers.{given, unless}
 use Rattle.rules.proofs.Words.{length-bytes-of}
-use Rattle.jobs.specs.Parts.{place-room}
+use Rattle.jobs.specs.Jobs.{place-room}
 use Rattle.jobs.specs.declared.Kind.{Kind}
 use Rattle.jobs.specs.declared.Kind.the-variants.{Nothing, Rewrite, Places}
 use Rattle.jobs.specs.declared.Job.{Job}
 use Rattle.job_bytes.specs.Form.{len-at, granule-at, count-at, done-at, offset-at, first-address-at, second-address-at}
 use Rattle.job_bytes.specs.Form.{first-kind-at, second-kind-at, value-at, places-at, first-block-at, second-block-at}
-use Rattle.job_bytes.specs.Form.{job-size, kind-number, kind-numbered, kinds-right, places-bytes, places-from, numbers-encoded, encoded, plan-from, job-from, decoded}
+use Rattle.job_bytes.specs.Form.{job-size, kind-number, kind-numbered, sizes-encoded, addresses-encoded, kinds-encoded, numbers-encoded, encoded}
+use Rattle.job_bytes.specs.Form.{plan-from, job-from, holds-job, decoded}
 use Rattle.job_bytes.proofs.Numbers.{field-read, behind}
-use Rattle.job_bytes.proofs.PlaceNumbers.{length-places-bytes, places-read}
 
 -- what the types of a job's fields say of their values
 pub record Typed (j : Job) : Type 0 where
@@ -31,8 +31,7 @@ pub record Typed (j : Job) : Type 0 where
   pub at : j .plan .at < 2 ^ 32
   pub after : j .plan .after < 2 ^ 32
   pub value : length (j .value) ≡ 8
-  pub places : length (j .places) ≡ place-room
-  pub each-place : (i : ℕ) → getD (j .places) i 0 < 2 ^ 16
+  pub places : length (j .places) ≡ 2 * place-room
   pub first : length (j .first) ≡ block-size
   pub second : length (j .second) ≡ block-size
 
@@ -63,7 +62,7 @@ module _ (j : Job) (t : Typed j) where
   bs = encoded j
 
   abbrev arrays : List ℕ
-  arrays = j .value ++ (places-bytes (j .places) ++ (j .first ++ j .second))
+  arrays = j .value ++ (j .places ++ (j .first ++ j .second))
 
   abbrev kinds : List ℕ
   kinds = bytes-of 2 (kind-number (j .plan .first)) ++ (bytes-of 2 (kind-number (j .plan .second)) ++ arrays)
@@ -77,7 +76,7 @@ module _ (j : Job) (t : Typed j) where
       ++ (bytes-of 8 (j .plan .granule) ++ (bytes-of 8 (j .plan .count) ++ (bytes-of 8 (j .done) ++ addresses)))
 
   from-0 : encoded j ≡ sizes
-  unfolding encoded numbers-encoded
+  unfolding encoded numbers-encoded sizes-encoded addresses-encoded kinds-encoded
   from-0 = simp append-assoc
 
   record Sizes : Type 0 where
@@ -137,7 +136,7 @@ module _ (j : Job) (t : Typed j) where
 
   record Arrays : Type 0 where
     value : take 8 (drop value-at bs) ≡ j .value
-    places : places-from place-room (drop places-at bs) ≡ j .places
+    places : take (2 * place-room) (drop places-at bs) ≡ j .places
     first : take block-size (drop first-block-at bs) ≡ j .first
     second : take block-size (drop second-block-at bs) ≡ j .second
 
@@ -145,12 +144,11 @@ module _ (j : Job) (t : Typed j) where
   arrays-read =
       let b48 = kinds-read .rest in
       let b56 = behind bs value-at 8 (j .value) _ b48 (t .value) in
-      let b1072 = behind bs places-at 1016 (places-bytes (j .places)) _ b56
-      (omega (arith, length-places-bytes (j .places), t .places)) in
+      let b1072 = behind bs places-at 1016 (j .places) _ b56 (t .places) in
       let b5168 = behind bs first-block-at 4096 (j .first) _ b1072 (t .first) in
       record {
         value = rw b48 (take-at (j .value) _ 8 (t .value));
-        places = rw (b56, ← t .places) (places-read (j .places) _ (t .each-place));
+        places = rw b56 (take-at (j .places) _ (2 * place-room) (t .places));
         first = rw b1072 (take-at (j .first) _ block-size (t .first));
         second = rw b5168 (take-all block-size (j .second) (omega (arith, t .second)));
       }
@@ -185,11 +183,11 @@ module _ (j : Job) (t : Typed j) where
   pub length-encoded : length (encoded j) ≡ job-size
   length-encoded =
       rw from-0
-      (simp (length-append, length-bytes-of, length-places-bytes)
+      (simp (length-append, length-bytes-of)
       (omega (arith, t .value, t .places, t .first, t .second)))
 
   pub decoded-encoded : decoded (encoded j) ≡ given j
-  unfolding decoded unless kinds-right
+  unfolding decoded unless holds-job
   decoded-encoded =
       rw (
         eq-eqb (length (encoded j)) job-size length-encoded,

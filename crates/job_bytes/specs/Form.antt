@@ -1,17 +1,17 @@
 -- A job as bytes: every field of it at a fixed offset, numbers little-endian. Assumes nothing.
+use mathlib.Core.Path.{_≡_}
 use mathlib.Core.Bool.{Bool, cond, _&&_}
-use mathlib.Core.List.{List, [], _∷_, _++_}
-use Prim.Native.Nat.{ℕ, zero, suc}
+use mathlib.Core.List.{List, _++_}
+use Prim.Native.Nat.{ℕ, _+_, _*_, min}
 use lib.Dec.{eqb, leb}
 use lib.ListN.{length, take, drop}
 use Rattle.rules.specs.Bytes.{block-size, bytes-of, field}
 use Rattle.rules.specs.Answers.{Answer, given, unless}
-use Rattle.jobs.specs.Parts.{place-room}
+use Rattle.jobs.specs.Jobs.{place-room, steps-of}
 use Rattle.jobs.specs.declared.Kind.{Kind}
 use Rattle.jobs.specs.declared.Kind.the-variants.{Nothing, Rewrite, Places}
 use Rattle.jobs.specs.declared.Plan.{Plan}
 use Rattle.jobs.specs.declared.Job.{Job}
-use Rattle.job_bytes.specs.declared.Decoded.{Decoded}
 
 -- the length of every such buffer
 abbrev pub job-size : ℕ
@@ -85,39 +85,31 @@ kind-number Places = 2
 unfoldable pub kind-numbered : ℕ → Kind
 kind-numbered n = cond (eqb n 0) Nothing (cond (eqb n 1) Rewrite Places)
 
--- ---- places
-
--- two bytes for each number
-unfoldable pub places-bytes : List ℕ → List ℕ
-places-bytes [] = []
-places-bytes (k ∷ ks) = bytes-of 2 k ++ places-bytes ks
-
--- n numbers of two bytes each, from the front
-unfoldable pub places-from : ℕ → List ℕ → List ℕ
-places-from zero bs = []
-places-from (suc n) bs = field 0 2 bs ∷ places-from n (drop 2 bs)
-
 -- ---- a job into bytes
 
--- the numbers of a job, 48 bytes
-unfoldable pub numbers-encoded : Job → List ℕ
-numbers-encoded j =
-    bytes-of 8 (j .plan .len)
-    ++ (bytes-of 8 (j .plan .granule)
-    ++ (bytes-of 8 (j .plan .count)
-    ++ (bytes-of 8 (j .done)
-    ++ (bytes-of 4 (j .plan .offset)
-    ++ (bytes-of 4 (j .plan .at)
-    ++ (bytes-of 4 (j .plan .after)
-    ++ (bytes-of 2 (kind-number (j .plan .first))
-    ++ bytes-of 2 (kind-number (j .plan .second)))))))))
+-- sizes and counts, 32 bytes
+unfoldable pub sizes-encoded : Plan → ℕ → List ℕ
+sizes-encoded p done = bytes-of 8 (p .len) ++ (bytes-of 8 (p .granule) ++ (bytes-of 8 (p .count) ++ bytes-of 8 done))
+
+-- addresses, 12 bytes
+unfoldable pub addresses-encoded : Plan → List ℕ
+addresses-encoded p = bytes-of 4 (p .offset) ++ (bytes-of 4 (p .at) ++ bytes-of 4 (p .after))
+
+-- kinds, 4 bytes
+unfoldable pub kinds-encoded : Plan → List ℕ
+kinds-encoded p = bytes-of 2 (kind-number (p .first)) ++ bytes-of 2 (kind-number (p .second))
+
+-- all its numbers, 48 bytes
+unfoldable pub numbers-encoded : Plan → ℕ → List ℕ
+numbers-encoded p done = sizes-encoded p done ++ (addresses-encoded p ++ kinds-encoded p)
 
 -- then its arrays
 unfoldable pub encoded : Job → List ℕ
-encoded j = numbers-encoded j ++ (j .value ++ (places-bytes (j .places) ++ (j .first ++ j .second)))
+encoded j = numbers-encoded (j .plan) (j .done) ++ (j .value ++ (j .places ++ (j .first ++ j .second)))
 
 -- ---- bytes into a job
 
+-- the plan that bytes hold
 unfoldable pub plan-from : List ℕ → Plan
 plan-from bs = record {
   len = field len-at 8 bs;
@@ -130,23 +122,61 @@ plan-from bs = record {
   count = field count-at 8 bs;
 }
 
+-- the job that bytes hold
 unfoldable pub job-from : List ℕ → Job
 job-from bs = record {
   plan = plan-from bs;
   done = field done-at 8 bs;
   first = take block-size (drop first-block-at bs);
   second = take block-size (drop second-block-at bs);
-  places = places-from place-room (drop places-at bs);
+  places = take (2 * place-room) (drop places-at bs);
   value = take 8 (drop value-at bs);
 }
 
--- each of the two kinds is one of the three
-unfoldable pub kinds-right : List ℕ → Bool
-kinds-right bs = leb (field first-kind-at 2 bs) 2 && leb (field second-kind-at 2 bs) 2
+-- bytes that hold a job: the length is right, and each of the two kinds is one of the three
+unfoldable pub holds-job : List ℕ → Bool
+holds-job bs =
+    eqb (length bs) job-size && (leb (field first-kind-at 2 bs) 2 && leb (field second-kind-at 2 bs) 2)
 
+-- that job, or refused
 unfoldable pub decoded : List ℕ → Answer Job
-decoded bs = unless malformed (eqb (length bs) job-size) (unless malformed (kinds-right bs) (given (job-from bs)))
+decoded bs = unless malformed (holds-job bs) (given (job-from bs))
 
--- what the code of it answers
-unfoldable pub answered : Decoded → Answer Job
-answered d = unless malformed (d .right) (given (d .job))
+-- ---- a job put into a buffer
+
+-- a block that is to be rewritten, else what was there
+unfoldable pub block-over : Kind → List ℕ → List ℕ → List ℕ
+block-over Nothing b old = old
+block-over Rewrite b old = b
+block-over Places b old = old
+
+-- how many bytes of the places' numbers are meant
+abbrev pub meant-size : ℕ → ℕ
+meant-size count = 2 * min count place-room
+
+-- a job with what its steps do not use as a buffer had it
+unfoldable pub job-over : List ℕ → Job → Job
+job-over bs j = record {
+  plan = j .plan;
+  done = j .done;
+  first = block-over (j .plan .first) (j .first) (job-from bs .first);
+  second = block-over (j .plan .second) (j .second) (job-from bs .second);
+  places = take (meant-size (j .plan .count)) (j .places) ++ drop (meant-size (j .plan .count)) (job-from bs .places);
+  value = j .value;
+}
+
+-- every byte of a buffer after a job was put into it
+unfoldable pub encoded-over : List ℕ → Job → List ℕ
+encoded-over bs j = encoded (job-over bs j)
+
+-- two jobs that differ at most in what their steps do not use
+pub record Same (j j′ : Job) : Type 0 where
+  pub plan : j′ .plan ≡ j .plan
+  pub done : j′ .done ≡ j .done
+  pub steps : steps-of j′ ≡ steps-of j
+
+-- a buffer afterwards: every byte of it, and the job that it holds
+pub record Stored (bs : List ℕ) (j : Job) (after : List ℕ) : Type 0 where
+  pub bytes : after ≡ encoded-over bs j
+  pub holds : decoded after ≡ given (job-over bs j)
+  pub same : Same j (job-over bs j)

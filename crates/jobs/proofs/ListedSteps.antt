@@ -3,56 +3,68 @@ use mathlib.Core.Path.{_≡_, refl, sym, _∙_}
 use mathlib.Core.Bool.{true}
 use mathlib.Core.List.{List}
 use Prim.Native.Nat.{ℕ, _-_, _≤_, _<_, min}
-use lib.ListN.{length, take, drop, length-append, length-take}
+use native.Mathlib.Omega.{arith}
+use lib.ListN.{length, take, drop, length-append}
 use lib.Seq.{drop-nil}
 use Rattle.rules.proofs.Tests.{and-true}
 use Rattle.rules.specs.Lists.{all}
 use Rattle.rules.specs.Steps.{steps}
 use Rattle.rules.specs.Cuts.{inside}
 use Rattle.rules.specs.declared.Step.{Step}
-use Rattle.jobs.specs.Jobs.{part, listed, first-step}
-use Rattle.jobs.specs.Parts.{place-room, Sized, part-length, listed-length, part-inside, listed-inside}
+use Rattle.jobs.specs.Jobs.{place-room, meant, part, listed, first-step}
+use Rattle.jobs.specs.Parts.{Sized, part-length, listed-length, part-inside, listed-inside}
 use Rattle.jobs.specs.declared.Kind.{Kind}
 use Rattle.jobs.specs.declared.Kind.the-variants.{Nothing, Rewrite, Places}
 use Rattle.jobs.specs.declared.Plan.{Plan}
 use Rattle.jobs.proofs.Splits.{all-split, steps-split, first-left, first-right}
 use Rattle.jobs.proofs.RewriteSteps.{length-rewrite, inside-rewrite}
+use Rattle.jobs.proofs.PlaceNumbers.{length-numbers}
 use Rattle.jobs.proofs.PlaceSteps.{length-places, inside-places}
 
 module _ (a offset count : ℕ) (b ks v : List ℕ) (sized : Sized b ks v) where
   pub length-part : (kind : Kind)
-      → length (part kind a offset b (take count ks) v) ≡ part-length kind (min count place-room)
+      → length (part kind a offset b (meant count ks) v) ≡ part-length kind (min count place-room)
   unfolding part part-length
   length-part Nothing = refl
   length-part Rewrite = length-rewrite a b (sized .block)
   length-part Places =
-      length-places a offset v (sized .value) (take count ks) ∙ rw (length-take, sized .places)
+      length-places a offset v (sized .value) (meant count ks) ∙ rw (length-numbers (min count place-room) ks)
 
   pub inside-part : (g len k : ℕ) (kind : Kind)
-      → all (inside g len) (drop k (part kind a offset b (take count ks) v))
-      ≡ part-inside g len kind a offset (take count ks) k
+      → all (inside g len) (drop k (part kind a offset b (meant count ks) v))
+      ≡ part-inside g len kind a offset (meant count ks) k
   unfolding part part-inside all
   inside-part g len k Nothing = rw drop-nil
   inside-part g len k Rewrite = inside-rewrite a b (sized .block) g len k
-  inside-part g len k Places = inside-places a offset v (sized .value) g len k (take count ks)
+  inside-part g len k Places = inside-places a offset v (sized .value) g len k (meant count ks)
+
+part-bound : (kind : Kind) (count : ℕ) → part-length kind (min count place-room) ≤ 4097
+unfolding part-length
+part-bound Nothing count = omega arith
+part-bound Rewrite count = omega arith
+part-bound Places count = omega arith
+
+pub listed-bound : (p : Plan) → listed-length p ≤ 8194
+unfolding listed-length
+listed-bound p = omega (arith, part-bound (p .first) (p .count), part-bound (p .second) (p .count))
 
 abbrev pub first-part : Plan → List ℕ → List ℕ → List ℕ → List Step
-first-part p b ks v = part (p .first) (p .at) (p .offset) b (take (p .count) ks) v
+first-part p b ks v = part (p .first) (p .at) (p .offset) b (meant (p .count) ks) v
 
 abbrev pub second-part : Plan → List ℕ → List ℕ → List ℕ → List Step
-second-part p b ks v = part (p .second) (p .after) (p .offset) b (take (p .count) ks) v
+second-part p b ks v = part (p .second) (p .after) (p .offset) b (meant (p .count) ks) v
 
 abbrev pub first-length : Plan → ℕ
 first-length p = part-length (p .first) (min (p .count) place-room)
 
 pub listed-parts : (len : ℕ) (p : Plan) (ks : List ℕ) (k : ℕ) → listed-inside len p ks k ≡ true
-    → (part-inside (p .granule) len (p .first) (p .at) (p .offset) (take (p .count) ks) k ≡ true)
-    × (part-inside (p .granule) len (p .second) (p .after) (p .offset) (take (p .count) ks) (k - first-length p)
+    → (part-inside (p .granule) len (p .first) (p .at) (p .offset) (meant (p .count) ks) k ≡ true)
+    × (part-inside (p .granule) len (p .second) (p .after) (p .offset) (meant (p .count) ks) (k - first-length p)
     ≡ true)
 unfolding listed-inside
 listed-parts len p ks k t =
-    and-true (part-inside (p .granule) len (p .first) (p .at) (p .offset) (take (p .count) ks) k)
-    (part-inside (p .granule) len (p .second) (p .after) (p .offset) (take (p .count) ks) (k - first-length p)) t
+    and-true (part-inside (p .granule) len (p .first) (p .at) (p .offset) (meant (p .count) ks) k)
+    (part-inside (p .granule) len (p .second) (p .after) (p .offset) (meant (p .count) ks) (k - first-length p)) t
 
 module _ (p : Plan) (b0 b1 ks v : List ℕ) (sized0 : Sized b0 ks v) (sized1 : Sized b1 ks v) where
   length-first : length (first-part p b0 ks v) ≡ first-length p

@@ -2,31 +2,24 @@
 use mathlib.Core.Path.{_≡_, refl, sym, _∙_}
 use mathlib.Core.Bool.{Bool, true, false, _&&_}
 use mathlib.Core.List.{List, [], _∷_}
-use Prim.Native.Nat.{ℕ, zero, suc, _+_, _-_, _*_, _/_, _%_, _≤_, _<_, min}
-use native.Mathlib.Numerals.{add-one}
+use Prim.Native.Nat.{ℕ, zero, suc, _+_, _-_, _*_, _/_, _%_, _≤_, _<_}
 use native.Mathlib.Omega.{arith}
-use lib.Dec.{leb}
-use lib.ListN.{length, getD, take, drop, length-append, length-take, drop-of-length-le}
-use lib.Seq.{drop-cons, drop-nil, take-nil, getD-take}
-use borrow.Author.Tests.{leb-true, leb-false}
+use lib.Dec.{eqb, leb}
+use lib.ListN.{length, getD, take, drop, length-append, drop-of-length-le}
+use lib.Seq.{drop-nil, take-nil}
+use borrow.Author.Tests.{eqb-true, leb-true, leb-false}
+use Rattle.rules.proofs.Tests.{and-true}
 use Rattle.rules.specs.Lists.{all}
+use Rattle.rules.specs.Bytes.{field}
 use Rattle.rules.specs.Steps.{steps, programs}
 use Rattle.rules.specs.Commands.{into-place, into-places}
 use Rattle.rules.specs.Cuts.{inside}
-use Rattle.jobs.specs.Jobs.{first-step}
+use Rattle.jobs.specs.Jobs.{numbers-from, first-step}
 use Rattle.jobs.specs.Parts.{programs-inside, places-inside}
 use Rattle.jobs.specs.declared.Next.the-variants.{Finished}
 use Rattle.jobs.proofs.Splits.{all-split, steps-split, first-left, first-right}
+use Rattle.jobs.proofs.PlaceNumbers.{length-numbers, number-at}
 use Rattle.jobs.proofs.ProgramSteps.{length-programs, inside-programs}
-
--- the first places of a row, from one on
-pub place-cons : (count i : ℕ) (ks : List ℕ) → i < min count (length ks)
-    → drop i (take count ks) ≡ getD ks i 0 ∷ drop (i + 1) (take count ks)
-place-cons count i ks h =
-    rw (drop-cons (take count ks) i 0 (simp length-take h), getD-take count ks i 0 (omega arith), add-one)
-
-pub places-over : (count i : ℕ) (ks : List ℕ) → min count (length ks) ≤ i → drop i (take count ks) ≡ []
-places-over count i ks h = drop-of-length-le (take count ks) {i = i} (simp length-take h)
 
 module _ (len a offset from : ℕ) where
   pub inside-cons : (p : ℕ) (ks ls : List ℕ) (address : ℕ) → address ≡ a + (offset + 8 * p) → ls ≡ p ∷ ks
@@ -118,16 +111,23 @@ module _ (a offset : ℕ) (v : List ℕ) (eight : length v ≡ 8) where
           (omega arith))
           ∙ rw (length-place p) (rest (omega arith)))
 
-  -- the same of the first places of a row
-  pub next-place-taken : (k count : ℕ) (ks : List ℕ) (address : ℕ)
-      → address ≡ a + (offset + 8 * getD ks (k / 8) 0)
-      → k / 8 < min count (length ks)
-      → first-step (drop (k % 8) (programs address v)) ≡ first-step (drop k (into-places a offset v (take count ks)))
-  next-place-taken k count ks address e h =
-      rw (e, ← getD-take count ks (k / 8) 0 (omega arith))
-      (sym (next-place k (take count ks) (simp length-take (omega arith))))
+  -- the same of numbers that are read
+  pub next-place-read : (k n : ℕ) (bs : List ℕ) (place address : ℕ)
+      → place ≡ field (2 * (k / 8)) 2 bs
+      → address ≡ a + (offset + 8 * place)
+      → k / 8 < n
+      → first-step (drop (k % 8) (programs address v)) ≡ first-step (drop k (into-places a offset v (numbers-from n bs)))
+  next-place-read k n bs place address ep ea h =
+      rw (ea, ep, ← number-at n (k / 8) bs h)
+      (sym (next-place k (numbers-from n bs) (rw (length-numbers n bs) (omega arith))))
 
   pub no-next-place : (k : ℕ) (ks : List ℕ) → 8 * length ks ≤ k → first-step (drop k (into-places a offset v ks))
       ≡ Finished
   unfolding first-step
   no-next-place k ks h = rw (drop-of-length-le (into-places a offset v ks) {i = k} (rw (length-places ks) h))
+
+-- the test for a whole place
+pub place-asked : (from n : ℕ) {m : ℕ} → eqb from 0 && leb m n ≡ true → (from ≡ 0) × (m ≤ n)
+place-asked from n {m} t =
+    let (first, enough) = and-true (eqb from 0) (leb m n) t in
+    (eqb-true from 0 first, leb-true m n enough)

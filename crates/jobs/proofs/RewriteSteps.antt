@@ -75,6 +75,11 @@ rewrite-parts g len a k t =
     let (u, w) = and-true (erase-inside g len a k) (rest && magic) t in
     (u, and-true rest magic w)
 
+-- of m steps those left for the magic: less the bytes before it that are not done
+pub left-for-magic : (m skip used last : ℕ) {before : ℕ} → used ≡ before - skip → last ≡ m - used → before ≡ rest-size
+    → last ≡ m - (rest-size - skip)
+left-for-magic m skip used last eu el all = el ∙ rw (eu, all)
+
 module _ (a : ℕ) (b : List ℕ) (sized : length b ≡ block-size) where
   length-rest : length (drop 4 b) ≡ rest-size
   length-rest = rw (length-drop, sized)

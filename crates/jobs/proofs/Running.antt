@@ -10,10 +10,10 @@ use lib.Seq.{drop-drop}
 use borrow.Author.Tests.{lt-ltb, le-ltb}
 use Rattle.rules.proofs.Tests.{clash}
 use Rattle.rules.specs.Lists.{all}
-use Rattle.rules.specs.Answers.{refused, given, unless}
+use Rattle.rules.specs.Answers.{Answer, refused, given, unless}
 use Rattle.rules.specs.Steps.{steps}
-use Rattle.rules.specs.Cuts.{run, inside, may-run}
-use Rattle.jobs.specs.Jobs.{listed, steps-of, under-way, admitted, steps-done, advanced, ran, progress-after, steps-left}
+use Rattle.rules.specs.Cuts.{Progress, run, inside, may-run}
+use Rattle.jobs.specs.Jobs.{listed, steps-of, under-way, admitted, steps-done, advanced, ran, progress-after, did-by-run, image-after-run, steps-left}
 use Rattle.jobs.specs.Parts.{Sized, listed-length, listed-inside}
 use Rattle.jobs.specs.declared.Job.{Job}
 use Rattle.jobs.specs.declared.Ran.{Ran}
@@ -37,12 +37,11 @@ pub record Arrays (j : Job) : Type 0 where
   pub first : Sized (j .first) (j .places) (j .value)
   pub second : Sized (j .second) (j .places) (j .value)
 
--- what a refused run returns and leaves
+-- what a refused run says and leaves
 pub stays : (j : Job) (budget n : ℕ) (img : List ℕ) → admitted j img ≡ refused n
-    → (_≡_ {A = Ran} (record { job = j; did = Refused n }) (ran j budget (admitted j img)))
-    × (under-way j img ≡ progress-after j budget img (admitted j img))
-unfolding ran progress-after
-stays j budget n img h = (rw h, rw h)
+    → (Refused n ≡ did-by-run j budget img) × (img ≡ image-after-run j budget img)
+unfolding ran progress-after under-way
+stays j budget n img h = (rw (did-by-run, h), rw (image-after-run, h))
 
 -- a job further on denotes the steps that are left
 pub steps-advanced : (j : Job) (n : ℕ) → steps-of (advanced j n) ≡ drop n (steps-of j)
@@ -86,19 +85,86 @@ module _ (j : Job) (arrays : Arrays j) where
     unfolding admitted may-run under-way unless
     inside-given t = rw (left, inside-steps (length img), t)
 
-  -- what a run that is not refused returns and leaves
+  -- what a run that is not refused says and leaves
   pub goes : (img after : List ℕ) (budget n : ℕ)
       → admitted j img ≡ given (under-way j img)
       → n ≡ min budget (listed-length (j .plan) - j .done)
       → after ≡ steps (j .plan .granule) (take budget (steps-of j)) img
-      → (_≡_ {A = Ran} (record { job = advanced j n; did = Steps n }) (ran j budget (admitted j img)))
-      × (under-way (advanced j n) after ≡ progress-after j budget img (admitted j img))
+      → (Steps n ≡ did-by-run j budget img) × (after ≡ image-after-run j budget img)
   unfolding ran progress-after steps-done under-way run
   goes img after budget n h m e =
       let count : length (take budget (steps-of j)) ≡ n = length-take budget (steps-of j) ∙ rw length-steps (sym m) in
-      let k : n ≡ min budget (length (steps-of j)) = rw length-steps m in
-      (rw (h, count), rw (h, e, steps-advanced j n, k, drop-least budget (steps-of j)))
+      (rw (did-by-run, h, count), rw (image-after-run, h, e))
 
   pub remain : (n : ℕ) → n ≡ listed-length (j .plan) - j .done → n ≡ steps-left j
   unfolding steps-left
   remain n e = e ∙ sym length-steps
+
+-- ---- what a run returns, from what it says
+
+pub refused-steps : (m n : ℕ) → Refused m ≡ Steps n → ⊥
+refused-steps m n e = let z : _≡_ {A = ℕ} 0 1 = cc in omega arith
+
+module _ (j : Job) (img : List ℕ) where
+  -- a run is refused, or it starts from the job on this image
+  admitted-or-not : (P : Answer Progress → Type 0)
+      → ((n : ℕ) → P (refused n))
+      → P (given (under-way j img))
+      → P (admitted j img)
+  unfolding admitted may-run unless
+  admitted-or-not P not-so so =
+      tests (ltb 0 (length (under-way j img .left)))
+      (eqb (length (under-way j img .image)) (j .plan .len)
+      && all (inside (j .plan .granule) (length (under-way j img .image))) (under-way j img .left))
+    where
+      tests : (t u : Bool) → P (unless 11 t (unless 12 u (given (under-way j img))))
+      tests false u = not-so 11
+      tests true false = not-so 12
+      tests true true = so
+
+  module _ (budget n : ℕ) (after : List ℕ) where
+    pub refused-run : Refused n ≡ did-by-run j budget img
+        → after ≡ image-after-run j budget img
+        → (_≡_ {A = Ran} (record { job = j; did = Refused n }) (ran j budget (admitted j img)))
+        × (under-way j after ≡ progress-after j budget img (admitted j img))
+    unfolding ran progress-after under-way
+    refused-run =
+        admitted-or-not
+        (λ (answer : Answer Progress).
+        Refused n ≡ ran j budget answer .did
+        → after ≡ progress-after j budget img answer .image
+        → (_≡_ {A = Ran} (record { job = j; did = Refused n }) (ran j budget answer))
+        × (under-way j after ≡ progress-after j budget img answer))
+        (λ m d e. let same : n ≡ m = cc in (rw same, rw e))
+        (λ d e. absurd (refused-steps n (steps-done budget (under-way j img)) d))
+
+    pub steps-run : Steps n ≡ did-by-run j budget img
+        → after ≡ image-after-run j budget img
+        → (_≡_ {A = Ran} (record { job = advanced j n; did = Steps n }) (ran j budget (admitted j img)))
+        × (under-way (advanced j n) after ≡ progress-after j budget img (admitted j img))
+    unfolding ran progress-after under-way run steps-done
+    steps-run =
+        admitted-or-not
+        (λ (answer : Answer Progress).
+        Steps n ≡ ran j budget answer .did
+        → after ≡ progress-after j budget img answer .image
+        → (_≡_ {A = Ran} (record { job = advanced j n; did = Steps n }) (ran j budget answer))
+        × (under-way (advanced j n) after ≡ progress-after j budget img answer))
+        (λ m d e. absurd (refused-steps m n (sym d)))
+        (λ d e.
+        let count : n ≡ length (take budget (steps-of j)) = cc in
+        let k : n ≡ min budget (length (steps-of j)) = count ∙ length-take budget (steps-of j) in
+        (rw (← count), rw (e, steps-advanced j n, k, drop-least budget (steps-of j))))
+
+  -- no more steps are done than there are
+  pub steps-within : (arrays : Arrays j) (budget n : ℕ) → Steps n ≡ did-by-run j budget img
+      → n ≤ listed-length (j .plan) - j .done
+  unfolding ran under-way steps-done
+  steps-within arrays budget n =
+      admitted-or-not
+      (λ (answer : Answer Progress). Steps n ≡ ran j budget answer .did → n ≤ listed-length (j .plan) - j .done)
+      (λ m d. absurd (refused-steps m n (sym d)))
+      (λ d.
+      let count : n ≡ length (take budget (steps-of j)) = cc in
+      let k : n ≡ min budget (length (steps-of j)) = count ∙ length-take budget (steps-of j) in
+      omega (arith, k, length-steps j arrays))

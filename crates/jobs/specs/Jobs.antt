@@ -1,7 +1,8 @@
 -- The list of steps that a job value denotes, and what a run of it answers and leaves. Assumes nothing.
 use mathlib.Core.List.{List, [], _∷_, _++_}
-use Prim.Native.Nat.{ℕ, _+_}
+use Prim.Native.Nat.{ℕ, zero, suc, _+_, min}
 use lib.ListN.{take, drop, length}
+use Rattle.rules.specs.Bytes.{field}
 use Rattle.rules.specs.Answers.{Answer, refused, given}
 use Rattle.rules.specs.Steps.{rewrite}
 use Rattle.rules.specs.Commands.{into-places}
@@ -11,10 +12,24 @@ use Rattle.jobs.specs.declared.Kind.{Kind}
 use Rattle.jobs.specs.declared.Kind.the-variants.{Nothing, Rewrite, Places}
 use Rattle.jobs.specs.declared.Plan.{Plan}
 use Rattle.jobs.specs.declared.Job.{Job}
+use Rattle.jobs.specs.declared.Did.{Did}
 use Rattle.jobs.specs.declared.Did.the-variants.{Steps, Refused}
 use Rattle.jobs.specs.declared.Ran.{Ran}
 use Rattle.jobs.specs.declared.Next.{Next}
 use Rattle.jobs.specs.declared.Next.the-variants.{Is, Finished}
+
+-- the room for places' numbers in a job
+abbrev pub place-room : ℕ
+place-room = 508
+
+-- n numbers of two bytes each, lowest byte first, from the front
+unfoldable pub numbers-from : ℕ → List ℕ → List ℕ
+numbers-from zero bs = []
+numbers-from (suc n) bs = field 0 2 bs ∷ numbers-from n (drop 2 bs)
+
+-- of the places' numbers the first ones, as many as are meant
+abbrev pub meant : ℕ → List ℕ → List ℕ
+meant count ks = numbers-from (min count place-room) ks
 
 -- the steps of a part: none, a block rewritten, or eight bytes into each of some places
 unfoldable pub part : Kind → ℕ → ℕ → List ℕ → List ℕ → List ℕ → List Step
@@ -25,8 +40,8 @@ part Places at offset b ks v = into-places at offset v ks
 -- the steps listed when the command started: those of the first part, then those of the second
 unfoldable pub listed : Plan → List ℕ → List ℕ → List ℕ → List ℕ → List Step
 listed p b0 b1 ks v =
-    part (p .first) (p .at) (p .offset) b0 (take (p .count) ks) v
-    ++ part (p .second) (p .after) (p .offset) b1 (take (p .count) ks) v
+    part (p .first) (p .at) (p .offset) b0 (meant (p .count) ks) v
+    ++ part (p .second) (p .after) (p .offset) b1 (meant (p .count) ks) v
 
 -- the steps that a job denotes: those listed, less the ones done
 unfoldable pub steps-of : Job → List Step
@@ -66,6 +81,20 @@ ran j budget (given p) = record { job = advanced j (steps-done budget p); did = 
 unfoldable pub progress-after : Job → ℕ → List ℕ → Answer Progress → Progress
 progress-after j budget img (refused n) = under-way j img
 progress-after j budget img (given p) = run (j .plan .granule) budget p
+
+-- ---- a run of a job whose arrays are lent
+
+-- that job
+abbrev pub lent : Plan → ℕ → List ℕ → List ℕ → List ℕ → List ℕ → Job
+lent p done b0 b1 ks v = record { plan = p; done = done; first = b0; second = b1; places = ks; value = v }
+
+-- what a run says it did
+abbrev pub did-by-run : Job → ℕ → List ℕ → Did
+did-by-run j budget img = ran j budget (admitted j img) .did
+
+-- the image that it leaves
+abbrev pub image-after-run : Job → ℕ → List ℕ → List ℕ
+image-after-run j budget img = progress-after j budget img (admitted j img) .image
 
 -- ---- what remains
 

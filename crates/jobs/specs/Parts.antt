@@ -5,20 +5,18 @@ use mathlib.Core.Bool.{Bool, true, _&&_, _||_}
 use mathlib.Core.List.{List, [], _∷_}
 use Prim.Native.Nat.{ℕ, suc, _+_, _-_, _*_, min}
 use lib.Dec.{leb}
-use lib.ListN.{length, take}
+use lib.ListN.{length}
 use Rattle.rules.specs.Bytes.{block-size}
+use Rattle.jobs.specs.Jobs.{meant}
+pub use Rattle.jobs.specs.Jobs.{place-room}
 use Rattle.jobs.specs.declared.Kind.{Kind}
 use Rattle.jobs.specs.declared.Kind.the-variants.{Nothing, Rewrite, Places}
 use Rattle.jobs.specs.declared.Plan.{Plan}
 
--- the room for places' numbers in a job
-abbrev pub place-room : ℕ
-place-room = 508
-
 -- the arrays of a part: its block, the places' numbers, the bytes for them
 pub record Sized (b ks v : List ℕ) : Type 0 where
   pub block : length b ≡ block-size
-  pub places : length ks ≡ place-room
+  pub places : length ks ≡ 2 * place-room
   pub value : length v ≡ 8
 
 -- the bytes of a block after its magic
@@ -65,6 +63,6 @@ part-inside g len Places a offset ks from = places-inside len a offset from ks
 
 unfoldable pub listed-inside : ℕ → Plan → List ℕ → ℕ → Bool
 listed-inside len p ks from =
-    part-inside (p .granule) len (p .first) (p .at) (p .offset) (take (p .count) ks) from
-    && part-inside (p .granule) len (p .second) (p .after) (p .offset) (take (p .count) ks)
+    part-inside (p .granule) len (p .first) (p .at) (p .offset) (meant (p .count) ks) from
+    && part-inside (p .granule) len (p .second) (p .after) (p .offset) (meant (p .count) ks)
     (from - part-length (p .first) (min (p .count) place-room))

@@ -1,12 +1,14 @@
 // A job: the list of steps of a command, by value. Running it, what remains of it, which step comes next.
 use rules::Step;
 ghost use mathlib.Core.Path.{_≡_};
-ghost use Rattle.jobs.specs.Jobs.{under-way, admitted, ran, progress-after, steps-left, next-of};
+ghost use Prim.Native.Nat.{_-_};
+ghost use Rattle.jobs.specs.Jobs.{lent, under-way, admitted, ran, progress-after, did-by-run, image-after-run, steps-left, next-of};
+ghost use Rattle.jobs.specs.Parts.{Sized, listed-length};
 
 mod device;
+mod into_places;
 mod numbers;
 mod parts;
-mod places;
 mod programs;
 mod rewriting;
 
@@ -30,13 +32,14 @@ pub struct Plan {
     pub count: usize,
 }
 
-// A job: its plan, how many steps are done, a block for each part, the places' numbers and the bytes for them.
+// A job: its plan, how many steps are done, a block for each part, the places' numbers of two bytes each, lowest byte
+// first, and the bytes for the places.
 pub struct Job {
     pub plan: Plan,
     pub done: usize,
     pub first: [u8; 4096],
     pub second: [u8; 4096],
-    pub places: [u16; 508],
+    pub places: [u8; 1016],
     pub value: [u8; 8],
 }
 
@@ -71,27 +74,55 @@ pub fn run(job: Job, image: &mut [u8], budget: usize) -> Ran
     let second = job.second;
     let places = job.places;
     let value = job.value;
+    let did = run_lent(plan, done, &first, &second, &places, &value, image, budget);
+    match did {
+        Did::Refused(number) => Ran {
+            job,
+            did: Did::Refused(number),
+        },
+        Did::Steps(n) => {
+            let mut next = job;
+            next.done = done + n;
+            Ran {
+                job: next,
+                did: Did::Steps(n),
+            }
+        }
+    }
+}
+
+// The same of a job whose arrays are lent, so that none is copied: only what it did and the image.
+pub fn run_lent<'a>(
+    plan: Plan,
+    done: usize,
+    first: &'a [u8],
+    second: &'a [u8],
+    places: &'a [u8],
+    value: &'a [u8],
+    image: &mut [u8],
+    budget: usize,
+) -> Did
+    requires { ⌜ (Sized (now first) (now places) (now value)) × (Sized (now second) (now places) (now value)) ⌝ }
+    ensures { λ r. ⌜
+        (r
+        ≡ did-by-run
+        (lent plan done (now (first .entry)) (now (second .entry)) (now (places .entry)) (now (value .entry)))
+        budget (now (image .entry)))
+        × (now (image .exit)
+        ≡ image-after-run
+        (lent plan done (now (first .entry)) (now (second .entry)) (now (places .entry)) (now (value .entry)))
+        budget (now (image .entry)))
+        ⌝ }
+{
     let count = parts::step_count(plan);
     if count <= done {
-        return Ran {
-            job,
-            did: Did::Refused(11),
-        };
+        return Did::Refused(11);
     }
-    if (image.len() != plan.len) | !parts::steps_inside(plan, &places, done, image.len()) {
-        return Ran {
-            job,
-            did: Did::Refused(12),
-        };
+    if (image.len() != plan.len) | !parts::steps_inside(plan, places, done, image.len()) {
+        return Did::Refused(12);
     }
-    parts::do_steps(plan, &first, &second, &places, &value, done, budget, image);
-    let n = numbers::least(budget, count - done);
-    let mut next = job;
-    next.done = done + n;
-    Ran {
-        job: next,
-        did: Did::Steps(n),
-    }
+    parts::do_steps(plan, first, second, places, value, done, budget, image);
+    Did::Steps(numbers::least(budget, count - done))
 }
 
 // How many steps remain.
@@ -99,7 +130,14 @@ pub fn remaining(job: Job) -> usize
     ensures { λ r. ⌜ r ≡ steps-left job ⌝ }
 {
     let plan = job.plan;
-    numbers::less(parts::step_count(plan), job.done)
+    remaining_of(plan, job.done)
+}
+
+// The same without its arrays.
+pub fn remaining_of(plan: Plan, done: usize) -> usize
+    ensures { λ r. ⌜ r ≡ listed-length plan - done ⌝ }
+{
+    numbers::less(parts::step_count(plan), done)
 }
 
 // Which step comes next.
@@ -111,5 +149,24 @@ pub fn next_step(job: Job) -> Next
     let second = job.second;
     let places = job.places;
     let value = job.value;
-    parts::next_of_parts(plan, &first, &second, &places, &value, job.done)
+    next_lent(plan, job.done, &first, &second, &places, &value)
+}
+
+// The same of a job whose arrays are lent.
+pub fn next_lent<'a>(
+    plan: Plan,
+    done: usize,
+    first: &'a [u8],
+    second: &'a [u8],
+    places: &'a [u8],
+    value: &'a [u8],
+) -> Next
+    requires { ⌜ (Sized (now first) (now places) (now value)) × (Sized (now second) (now places) (now value)) ⌝ }
+    ensures { λ r. ⌜
+        r
+        ≡ next-of
+        (lent plan done (now (first .entry)) (now (second .entry)) (now (places .entry)) (now (value .entry)))
+        ⌝ }
+{
+    parts::next_of_parts(plan, first, second, places, value, done)
 }

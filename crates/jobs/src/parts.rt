@@ -2,22 +2,19 @@
 use super::Kind;
 use super::Next;
 use super::Plan;
+use super::into_places;
 use super::numbers;
-use super::places;
 use super::rewriting;
 ghost use mathlib.Core.Path.{_≡_};
-ghost use mathlib.Core.Bool.{Bool, true};
-ghost use Prim.Native.Nat.{ℕ, _+_, _≤_, min};
+ghost use mathlib.Core.Bool.{true};
+ghost use Prim.Native.Nat.{_+_, _*_, _≤_, min};
 ghost use lib.ListN.{length, take, drop};
 ghost use Rattle.rules.specs.Steps.{steps};
-ghost use Rattle.jobs.specs.Jobs.{part, listed, first-step};
-ghost use Rattle.jobs.specs.Parts.{place-room, Sized, part-length, listed-length, part-inside, listed-inside};
+ghost use Rattle.jobs.specs.Jobs.{place-room, meant, part, listed, first-step};
+ghost use Rattle.jobs.specs.Parts.{Sized, part-length, listed-length, part-inside, listed-inside};
 
 // A rewrite: the erase and a byte each.
 const REWRITE_STEPS: usize = 4097;
-
-// The room for places' numbers in a job.
-const PLACE_ROOM: usize = 508;
 
 // ---- how many there are
 
@@ -27,7 +24,7 @@ fn part_length(kind: Kind, count: usize) -> usize
     match kind {
         Kind::Nothing => 0,
         Kind::Rewrite => REWRITE_STEPS,
-        Kind::Places => 8 * numbers::least(count, PLACE_ROOM),
+        Kind::Places => 8 * numbers::least(count, into_places::PLACE_ROOM),
     }
 }
 
@@ -47,22 +44,22 @@ fn part_inside(
     kind: Kind,
     at: u32,
     offset: u32,
-    places: &[u16],
+    places: &[u8],
     count: usize,
     from: usize,
 ) -> bool
-    requires { ⌜ length (now places) ≡ place-room ⌝ }
-    ensures { λ r. ⌜ r ≡ part-inside granule len kind at offset (take count (now (places .entry))) from ⌝ }
+    requires { ⌜ length (now places) ≡ 2 * place-room ⌝ }
+    ensures { λ r. ⌜ r ≡ part-inside granule len kind at offset (meant count (now (places .entry))) from ⌝ }
 {
     match kind {
         Kind::Nothing => true,
         Kind::Rewrite => rewriting::is_inside(granule, len, at as usize, from),
-        Kind::Places => places::are_inside(len, at, offset, places, count, from),
+        Kind::Places => into_places::are_inside(len, at, offset, places, count, from),
     }
 }
 
-pub fn steps_inside(plan: Plan, places: &[u16], from: usize, len: usize) -> bool
-    requires { ⌜ length (now places) ≡ place-room ⌝ }
+pub fn steps_inside(plan: Plan, places: &[u8], from: usize, len: usize) -> bool
+    requires { ⌜ length (now places) ≡ 2 * place-room ⌝ }
     ensures { λ r. ⌜ r ≡ listed-inside len plan (now (places .entry)) from ⌝ }
 {
     let first = plan.first;
@@ -99,7 +96,7 @@ fn do_part<'a>(
     at: u32,
     offset: u32,
     block: &'a [u8],
-    places: &'a [u16],
+    places: &'a [u8],
     count: usize,
     value: &'a [u8],
     from: usize,
@@ -107,13 +104,13 @@ fn do_part<'a>(
 )
     requires { ⌜
         (Sized (now block) (now places) (now value))
-        × (part-inside granule (length (now image)) kind at offset (take count (now places)) from ≡ true)
+        × (part-inside granule (length (now image)) kind at offset (meant count (now places)) from ≡ true)
         ⌝ }
     ensures { λ _. ⌜
         now (image .exit)
         ≡ steps granule
         (take n (drop from
-        (part kind at offset (now (block .entry)) (take count (now (places .entry))) (now (value .entry)))))
+        (part kind at offset (now (block .entry)) (meant count (now (places .entry))) (now (value .entry)))))
         (now (image .entry))
         ⌝ }
 {
@@ -123,7 +120,7 @@ fn do_part<'a>(
             rewriting::do_rewrite(image, at as usize, granule, block, from, n);
         }
         Kind::Places => {
-            places::do_places(image, at, offset, places, count, value, from, n);
+            into_places::do_places(image, at, offset, places, count, value, from, n);
         }
     }
 }
@@ -132,7 +129,7 @@ pub fn do_steps<'a>(
     plan: Plan,
     first: &'a [u8],
     second: &'a [u8],
-    places: &'a [u16],
+    places: &'a [u8],
     value: &'a [u8],
     from: usize,
     n: usize,
@@ -190,7 +187,7 @@ fn next_in_part<'a>(
     at: u32,
     offset: u32,
     block: &'a [u8],
-    places: &'a [u16],
+    places: &'a [u8],
     count: usize,
     value: &'a [u8],
     from: usize,
@@ -198,13 +195,13 @@ fn next_in_part<'a>(
     requires { ⌜ Sized (now block) (now places) (now value) ⌝ }
     ensures { λ r. ⌜
         r ≡ first-step (drop from
-        (part kind at offset (now (block .entry)) (take count (now (places .entry))) (now (value .entry))))
+        (part kind at offset (now (block .entry)) (meant count (now (places .entry))) (now (value .entry))))
         ⌝ }
 {
     match kind {
         Kind::Nothing => Next::Finished,
         Kind::Rewrite => rewriting::next_in_rewrite(at as usize, block, from),
-        Kind::Places => places::next_in_places(at, offset, places, count, value, from),
+        Kind::Places => into_places::next_in_places(at, offset, places, count, value, from),
     }
 }
 
@@ -212,7 +209,7 @@ pub fn next_of_parts<'a>(
     plan: Plan,
     first: &'a [u8],
     second: &'a [u8],
-    places: &'a [u16],
+    places: &'a [u8],
     value: &'a [u8],
     from: usize,
 ) -> Next

@@ -3,10 +3,11 @@ use super::Next;
 use super::device;
 use super::numbers;
 use super::programs;
+use fields::BLOCK_SIZE;
 use rules::Step;
 ghost use mathlib.Core.Path.{_≡_};
-ghost use mathlib.Core.Bool.{Bool, true};
-ghost use mathlib.Core.List.{List, [], _∷_};
+ghost use mathlib.Core.Bool.{true};
+ghost use mathlib.Core.List.{[], _∷_};
 ghost use Prim.Native.Nat.{_+_, _≤_};
 ghost use lib.ListN.{length, take, drop};
 ghost use Rattle.rules.specs.Bytes.{block-size};
@@ -28,8 +29,19 @@ fn do_erase(image: &mut [u8], at: usize, granule: usize, from: usize, n: usize)
     device::erase(image, at, granule);
 }
 
-// Do at most n of these steps: the erase, the bytes after the magic, the magic.
-pub fn do_rewrite(image: &mut [u8], at: usize, granule: usize, block: &[u8], from: usize, n: usize)
+// All of these steps, where the granule holds the block: they leave the block, and 0xFF to the granule's end.
+fn do_all(image: &mut [u8], at: usize, granule: usize, block: &[u8])
+    requires { ⌜
+        ((length (now block) ≡ block-size) × (block-size ≤ granule)) × (at + granule ≤ length (now image))
+        ⌝ }
+    ensures { λ _. ⌜ now (image .exit) ≡ steps granule (rewrite at (now (block .entry))) (now (image .entry)) ⌝ }
+{
+    fields::stores::copy(image, at, block);
+    device::erase(image, at + BLOCK_SIZE, granule - BLOCK_SIZE);
+}
+
+// At most n of them: the erase, the bytes after the magic, the magic.
+fn do_some(image: &mut [u8], at: usize, granule: usize, block: &[u8], from: usize, n: usize)
     requires { ⌜
         ((length (now block) ≡ block-size) × (at ≤ highest-address))
         × (rewrite-inside granule (length (now image)) at from ≡ true)
@@ -44,6 +56,23 @@ pub fn do_rewrite(image: &mut [u8], at: usize, granule: usize, block: &[u8], fro
     programs::do_programs(image, at + 4, &block[4..], skip, m);
     let last = numbers::less(m, numbers::less(REST_SIZE, skip));
     programs::do_programs(image, at, &block[..4], numbers::less(skip, REST_SIZE), last);
+}
+
+// Do at most n of these steps, all of them in one go where that leaves the same.
+pub fn do_rewrite(image: &mut [u8], at: usize, granule: usize, block: &[u8], from: usize, n: usize)
+    requires { ⌜
+        ((length (now block) ≡ block-size) × (at ≤ highest-address))
+        × (rewrite-inside granule (length (now image)) at from ≡ true)
+        ⌝ }
+    ensures { λ _. ⌜
+        now (image .exit) ≡ steps granule (take n (drop from (rewrite at (now (block .entry))))) (now (image .entry))
+        ⌝ }
+{
+    if (from == 0) & ((BLOCK_SIZE < n) & (BLOCK_SIZE <= granule)) {
+        do_all(image, at, granule, block);
+        return;
+    }
+    do_some(image, at, granule, block, from, n);
 }
 
 // These steps reach nothing outside an image of that length.

@@ -1,5 +1,5 @@
 pub mod Numbered
 pub mod Named
 pub mod Held
-pub mod Runs
+pub mod AfterRun
 pub mod Beginning

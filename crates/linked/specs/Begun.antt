@@ -10,7 +10,7 @@ use Rattle.jobs.specs.declared.Job.{Job}
 use Rattle.blocks.specs.Made.{Lists}
 use Rattle.commands.specs.declared.Outcome.{Outcome}
 use Rattle.commands.specs.declared.Outcome.the-variants.{Started, Refused}
-use Rattle.job_bytes.specs.Form.{job-size, malformed, decoded}
+use Rattle.job_bytes.specs.Form.{job-size, malformed, decoded, Same}
 
 -- refused 90 where the buffer has another length than a job's
 unfoldable pub for-job : List ℕ → Answer (List Step) → Answer (List Step)
@@ -23,7 +23,7 @@ begun-as r before after len granule (refused n) = (r ≡ n) × (after ≡ before
 begun-as r before after len granule (given ss) =
     (r ≡ 0) × ((j : Job) × (decoded after ≡ given j) × Lists j len granule ss)
 
--- the same, by what the start of the command returned
+-- the same, by what the start of the command returned: a job of the same steps
 unfoldable pub handed-over : ℕ → List ℕ → List ℕ → Job → Outcome → Type 0
 handed-over r before after j (Refused n) = (r ≡ n) × (after ≡ before)
-handed-over r before after j Started = (r ≡ 0) × (decoded after ≡ given j)
+handed-over r before after j Started = (r ≡ 0) × ((j′ : Job) × (decoded after ≡ given j′) × Same j j′)

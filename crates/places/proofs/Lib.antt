@@ -1,2 +1,3 @@
 pub mod Values
-pub mod Order
+pub mod Free
+pub mod BootOrder

@@ -14,8 +14,9 @@ use Rattle.rules.specs.Copies.{view, order-by, boot-order}
 use Rattle.rules.specs.Readers.{order-in, order-list, table-of, table-part, slot-count, facts, slot-there, slot-facts, name-in, slot-name}
 use Rattle.rules.specs.declared.View.{View}
 use Rattle.walks.specs.Entries.{most-entries}
+use Rattle.places.specs.Added.{order-by-rows}
 use Rattle.reading.specs.Answers.{viewed}
-use Rattle.reading.specs.Followed.{Followed, order-by-rows}
+use Rattle.reading.specs.Followed.{Followed}
 use Rattle.reading.specs.declared.Viewed.{Viewed}
 use Rattle.reading.specs.declared.Viewed.the-variants.{At, Refused}
 use Rattle.reading.proofs.Seen.{Seen, seen, table-followed}

@@ -1,10 +1,9 @@
--- What the code has of a table that it follows to the pointer blocks and the order. Assumes nothing.
+-- What the code has of a table that it follows to the pointer blocks. Assumes nothing.
 use mathlib.Core.List.{List}
 use Prim.Native.Nat.{ℕ, _+_, _≤_}
 use lib.ListN.{length}
 use Rattle.rules.specs.Bytes.{block, block-size}
-use Rattle.rules.specs.Table.{entry-count, rows, slot-starts, cpb0-of, cpb1-of}
-use Rattle.rules.specs.Pointers.{places, order}
+use Rattle.rules.specs.Table.{entry-count, cpb0-of, cpb1-of}
 use Rattle.walks.specs.Entries.{most-entries}
 
 -- the table at an address and its two pointer blocks are inside the image, and its count is right
@@ -13,7 +12,3 @@ pub record Followed (img : List ℕ) (at : ℕ) : Type 0 where
   pub count-right : entry-count (block img at) ≤ most-entries
   pub cpb0-inside : cpb0-of (block img at) + block-size ≤ length img
   pub cpb1-inside : cpb1-of (block img at) + block-size ≤ length img
-
--- the boot order by the first n entries of a table and a pointer block
-abbrev pub order-by-rows : ℕ → List ℕ → List ℕ → List ℕ
-order-by-rows n t p = order (slot-starts (rows n t)) (places p)

@@ -1,22 +1,19 @@
-// The boot order by a table and a pointer block, without a store of the slots met, and refusal 13.
+// The order listed into a lent row, and refusal 13.
 use super::Listed;
-use places::Added;
-use rules::PlaceNo;
+use slots::LastSlots;
 ghost use mathlib.Core.Path.{_≡_};
-ghost use mathlib.Core.List.{_++_};
-ghost use Prim.Native.Nat.{_+_, _≤_};
-ghost use lib.ListN.{length, drop};
+ghost use Prim.Native.Nat.{_≤_};
+ghost use lib.Dec.{leb};
+ghost use lib.ListN.{length};
 ghost use Rattle.rules.specs.Bytes.{block-size};
 ghost use Rattle.rules.specs.Readers.{order-in, row-after};
 ghost use Rattle.walks.specs.Entries.{most-entries};
+ghost use Rattle.slots.specs.Ends.{Ends};
 ghost use Rattle.places.specs.StandingPointers.{StandingPointers};
-ghost use Rattle.places.specs.Added.{growth, stored};
+ghost use Rattle.places.specs.Added.{order-by-rows};
 ghost use Rattle.reading.specs.Answers.{listed, count-of};
-ghost use Rattle.reading.specs.Followed.{order-by-rows};
 
-// The order listed into the row, or refused 13. Its length is worked out before anything is stored. A live place is
-// compared with those above it up to the first of its value; of one slot these stretches do not overlap, so that all
-// of them together are at most places times slots.
+// The order listed into the row, or refused 13. Whether it fits is known before anything is stored.
 pub fn list_order(t: &[u8], n: usize, p: &[u8], row: &mut [u32]) -> Listed
     requires { ⌜ ((length (now t) ≡ block-size) × (n ≤ most-entries)) × StandingPointers (now p) ⌝ }
     ensures answer { λ r. ⌜ listed r
@@ -24,62 +21,22 @@ pub fn list_order(t: &[u8], n: usize, p: &[u8], row: &mut [u32]) -> Listed
     ensures written { λ r. ⌜ now (row .exit) ≡ row-after
         (order-in (order-by-rows n (now (t .entry)) (now (p .entry))) (length (now (row .entry)))) (now (row .entry)) ⌝ }
 {
-    let len = order_length(t, n, p);
-    if row.len() < len {
+    let last = slots::last_slots(t, n);
+    if !has_room(t, n, last, p, row.len()) {
         return Listed::Refused(13);
     }
-    write_order(t, n, p, row);
+    let len = places::order::write_order(t, n, last, p, row);
     Listed::Count(len)
 }
 
-// How many slots the order has.
-fn order_length(t: &[u8], n: usize, p: &[u8]) -> usize
-    requires { ⌜ ((length (now t) ≡ block-size) × (n ≤ most-entries)) × StandingPointers (now p) ⌝ }
-    ensures { λ r. ⌜ r ≡ length (order-by-rows n (now (t .entry)) (now (p .entry))) ⌝ }
+// There is room for the order. It has at most all slots, so that its length is worked out only where there is no room
+// for them all.
+fn has_room(t: &[u8], n: usize, last: LastSlots, p: &[u8], room: usize) -> bool
+    requires { ⌜ (((length (now t) ≡ block-size) × (n ≤ most-entries)) × Ends (now t) n last) × StandingPointers (now p) ⌝ }
+    ensures { λ r. ⌜ r ≡ leb (length (order-by-rows n (now (t .entry)) (now (p .entry)))) room ⌝ }
 {
-    let mut len = 0;
-    let mut k = places::place_count(p);
-    while 0 < k {
-        k -= 1;
-        len += growth_of(places::added_by(t, n, p, PlaceNo(k)));
+    if slots::slot_total(t, n, last) <= room {
+        return true;
     }
-    len
-}
-
-// The order into the front of a row that has room for it.
-fn write_order(t: &[u8], n: usize, p: &[u8], row: &mut [u32])
-    requires { ⌜ (((length (now t) ≡ block-size) × (n ≤ most-entries)) × StandingPointers (now p))
-        × (length (order-by-rows n (now t) (now p)) ≤ length (now row)) ⌝ }
-    ensures { λ _. ⌜ now (row .exit) ≡ order-by-rows n (now (t .entry)) (now (p .entry))
-        ++ drop (length (order-by-rows n (now (t .entry)) (now (p .entry)))) (now (row .entry)) ⌝ }
-{
-    let mut at = 0;
-    let mut k = places::place_count(p);
-    while 0 < k {
-        k -= 1;
-        let added = places::added_by(t, n, p, PlaceNo(k));
-        store(added, at, row);
-        at += growth_of(added);
-    }
-}
-
-fn growth_of(added: Added) -> usize
-    ensures { λ r. ⌜ (r ≡ growth added) × (r ≤ 1) ⌝ }
-{
-    match added {
-        Added::Slot(_) => 1,
-        Added::Nothing => 0,
-    }
-}
-
-fn store(added: Added, at: usize, row: &mut [u32])
-    requires { ⌜ at + growth added ≤ length (now row) ⌝ }
-    ensures { λ _. ⌜ now (row .exit) ≡ stored added at (now (row .entry)) ⌝ }
-{
-    match added {
-        Added::Slot(s) => {
-            row[at] = s.0;
-        }
-        Added::Nothing => {}
-    }
+    places::order::order_length(t, n, last, p) <= room
 }

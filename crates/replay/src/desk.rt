@@ -38,7 +38,7 @@ fn no_job() -> Job {
         done: 0,
         first: [0; 4096],
         second: [0; 4096],
-        places: [0; 508],
+        places: [0; 1016],
         value: [0; 8],
     }
 }

@@ -2,7 +2,9 @@
 -- Assumes nothing.
 use mathlib.Core.Path.{sym, _∙_}
 use borrow.Author.Needs.{needs}
+use Rattle.rules.specs.Table.{rows, slot-starts}
 use Rattle.places.specs.Added.{added-at, added}
+use Rattle.places.proofs.Free.{live-used}
 use Rattle.places.proofs.added_by.Statement.{statement}
 use Rattle.places.proofs.added_by.Tie as tie
 
@@ -22,7 +24,15 @@ enum-known-judgement : tie.Need-enum-known-judgement
 enum-known-judgement c = search needs
 
 held-above-requires : tie.Need-held-above-requires
-held-above-requires c κs = search needs
+held-above-requires c κs =
+    let live = c .before in
+    let judged = live .before .before in
+    let start = judged .before .before .before .before in
+    let a = start .args in (
+      start .pre .1,
+      live-used (slot-starts (rows (a .n) (a .t .now))) (judged .before .place-value .result)
+          (live .judgement .given .0 .0) (sym (judged .judge .ensures) ∙ live .judgement .given .1),
+    )
 
 returns : tie.Need-returns
 unfolding added-at added

@@ -1,30 +1,32 @@
--- `places::held_above` walks the places above one. The invariant: what is left to walk decides. Assumes nothing.
+-- `places::held_above` walks the places above one up to the free place. The invariant: what is left to walk decides.
+-- Assumes nothing.
 use mathlib.Core.Path.{_≡_, refl, sym, _∙_}
-use Prim.Native.Nat.{_-_, _≤_}
+use Prim.Native.Nat.{_-_}
 use native.Mathlib.Omega.{arith}
 use lib.ListN.{drop}
-use borrow.Author.Needs.{needs}
 use Rattle.rules.specs.Lists.{member}
 use Rattle.rules.specs.Pointers.{places}
-use Rattle.walks.proofs.Loops.{member-here, member-goes, member-over}
-use Rattle.places.proofs.Values.{place-turn, place-over}
+use Rattle.rules.proofs.PointerHeader.{layout}
+use Rattle.walks.proofs.Loops.{member-here, member-goes}
+use Rattle.places.proofs.Values.{place-turn}
+use Rattle.places.proofs.Free.{not-held}
+use borrow.Author.Needs.{needs}
 use Rattle.places.proofs.held_above.Statement.{statement}
 use Rattle.places.proofs.held_above.Tie as tie
 
 abbrev Inv-loop : tie.InvT-loop
-Inv-loop p v count k₀ k = (k ≤ count) × (member v (drop k₀ (places p)) ≡ member v (drop k (places p)))
+Inv-loop p end v k₀ k = member v (drop k₀ (places p)) ≡ member v (drop k (places p))
 
 abbrev μ-loop : tie.MeasureT-loop
-μ-loop p v count k₀ k = count - k
-
-place-count-requires : tie.Need-place-count-requires Inv-loop μ-loop
-place-count-requires c κs = search needs
+μ-loop p end v k₀ k = end - k
 
 add-k : tie.Need-add-k Inv-loop μ-loop
-add-k c = omega arith
+add-k c =
+    let start = c .before .before in
+    omega (arith, layout (start .args .p .now) (start .pre .0 .0 .0 .stands))
 
 loop-holds : tie.Need-loop-holds Inv-loop μ-loop
-loop-holds c = (omega arith, refl)
+loop-holds c = refl
 
 place-value-requires : tie.Need-place-value-requires Inv-loop μ-loop
 place-value-requires c κs = search needs
@@ -33,9 +35,9 @@ returns : tie.Need-returns Inv-loop μ-loop
 returns c =
     let value = c .before in
     let at = value .before .before in
-    let a = at .before .before .before .before .args in
+    let a = at .before .before .before .args in
     sym
-    (at .loop .inv .1
+    (at .loop .inv
     ∙ member-here (a .v) (place-turn (a .p .now) (at .loop .k) (omega arith))
     (c .if1 .taken ∙ value .place-value .ensures))
 
@@ -49,18 +51,19 @@ loop-again : tie.Need-loop-again Inv-loop μ-loop
 loop-again c =
     let value = c .before in
     let at = value .before .before in
-    let a = at .before .before .before .before .args in (
-      omega arith,
-      at .loop .inv .1
-          ∙ member-goes (a .v) (place-turn (a .p .now) (at .loop .k) (omega arith))
-          (λ e. c .if1 .left (e ∙ sym (value .place-value .ensures))),
-    )
+    let a = at .before .before .before .args in
+    at .loop .inv
+    ∙ member-goes (a .v) (place-turn (a .p .now) (at .loop .k) (omega arith))
+    (λ e. c .if1 .left (e ∙ sym (value .place-value .ensures)))
 
 returns-2 : tie.Need-returns-2 Inv-loop μ-loop
 returns-2 c =
     let at = c .before in
-    let a = c .before .before .before .before .before .args in
-    sym (at .loop .inv .1 ∙ member-over (a .v) (place-over (a .p .now) (at .loop .k) (omega arith)))
+    let start = at .before .before .before in
+    let a = start .args in
+    sym
+    (at .loop .inv
+    ∙ not-held (a .p .now) (a .end) (at .loop .k) (a .v) (start .pre .0 .0 .1) (omega arith) (start .pre .1))
 
 pub held-above-spec : {M : Type 1} → statement M
 held-above-spec =
@@ -68,7 +71,6 @@ held-above-spec =
     (tie.spec
     Inv-loop
     μ-loop
-    place-count-requires
     add-k
     loop-holds
     place-value-requires

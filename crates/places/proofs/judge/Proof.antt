@@ -25,11 +25,11 @@ returns-2 c =
       slot-at-not-found (a .n) (a .t .now) (a .v) (f .find-slot .result .0) (f .find-slot .ensures .0) (omega arith),
     )
 
-count-slots-requires : tie.Need-count-slots-requires
-count-slots-requires c κs = search needs
+slots-before-requires : tie.Need-slots-before-requires
+slots-before-requires c κs = search needs
 
-cast-t8 : tie.Need-cast-t8
-cast-t8 c = search needs
+cast-slot : tie.Need-cast-slot
+cast-slot c = search needs
 
 returns-3 : tie.Need-returns-3
 unfolding judged all-ones live-or-dead
@@ -39,10 +39,10 @@ returns-3 c =
     rw (
       ne-eqb _ _ (c .before .before .before .if1 .left),
       slot-at-found (a .n) (a .t .now) (a .v) (f .find-slot .result .0) (f .find-slot .ensures .0) (omega arith),
-      c .count-slots .ensures .0,
+      c .slots-before .ensures .0,
     )
 
 pub judge-spec : {M : Type 1} → statement M
 judge-spec =
     tie.close
-    (tie.spec returns find-slot-requires returns-2 count-slots-requires cast-t8 returns-3)
+    (tie.spec returns find-slot-requires returns-2 slots-before-requires cast-slot returns-3)

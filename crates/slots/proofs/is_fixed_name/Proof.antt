@@ -1,11 +1,22 @@
--- `slots::is_fixed_name` meets its contract: six comparisons are the definition's test of six names. Assumes nothing.
+-- `slots::is_fixed_name` meets its contract: the first byte decides where it is none of the six names', else
+-- six comparisons are the definition's test of six names. Assumes nothing.
+use mathlib.Core.Path.{sym}
 use borrow.Author.Needs.{needs}
 use Rattle.rules.specs.Bytes.{up-to-zero}
 use Rattle.rules.specs.Table.{is-fixed-name, six-names}
 use Rattle.rules.specs.Table.{boot-info, factory-image, spt0-name, spt1-name, cpb0-name, cpb1-name}
-use Rattle.walks.proofs.Joined.{any-six}
+use Rattle.walks.proofs.Joined.{any-six, failed}
+use Rattle.slots.proofs.Initials.{begins-otherwise}
 use Rattle.slots.proofs.is_fixed_name.Statement.{statement}
 use Rattle.slots.proofs.is_fixed_name.Tie as tie
+
+begins-fixed-requires : tie.Need-begins-fixed-requires
+begins-fixed-requires c κs = search needs
+
+returns : tie.Need-returns
+returns c =
+    sym (begins-otherwise (c .before .before .before .args .name .now)
+    (failed (c .before .begins-fixed .ensures) (c .if1 .taken)))
 
 slice-aggregate-same-name : tie.Need-slice-aggregate-same-name
 slice-aggregate-same-name c = search needs
@@ -43,9 +54,9 @@ slice-aggregate-same-name-6 c = search needs
 same-name-requires-6 : tie.Need-same-name-requires-6
 same-name-requires-6 c κs = search needs
 
-returns : tie.Need-returns
+returns-2 : tie.Need-returns-2
 unfolding is-fixed-name six-names boot-info factory-image spt0-name spt1-name cpb0-name cpb1-name up-to-zero
-returns c =
+returns-2 c =
     let c5 = c .before .before in
     let c4 = c5 .before .before in
     let c3 = c4 .before .before in
@@ -65,6 +76,8 @@ pub is-fixed-name-spec : {M : Type 1} → statement M
 is-fixed-name-spec =
     tie.close
     (tie.spec
+    begins-fixed-requires
+    returns
     slice-aggregate-same-name
     same-name-requires
     slice-aggregate-same-name-2
@@ -77,4 +90,4 @@ is-fixed-name-spec =
     same-name-requires-5
     slice-aggregate-same-name-6
     same-name-requires-6
-    returns)
+    returns-2)

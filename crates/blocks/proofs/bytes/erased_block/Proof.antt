@@ -1,6 +1,6 @@
 -- `erased_block` is a block of 0xFF. Assumes nothing.
 use mathlib.Core.Path.{refl}
-use Rattle.blocks.specs.Put.{erased-block}
+use Rattle.blocks.specs.Made.{erased-block}
 use Rattle.blocks.proofs.bytes.erased_block.Statement.{statement}
 use Rattle.blocks.proofs.bytes.erased_block.Tie as tie
 

@@ -8,30 +8,31 @@ use borrow.Author.Needs.{needs}
 use Rattle.rules.specs.Table.{rows, slot-starts}
 use Rattle.rules.specs.Pointers.{place-count, places, order}
 use Rattle.rules.specs.Commands.{is-first}
-use Rattle.places.proofs.Order.{order-none}
+use Rattle.places.proofs.BootOrder.{none-above}
 use Rattle.blocks.proofs.Walking.{first-goes, first-found}
 use Rattle.blocks.proofs.pointers.comes_first.Statement.{statement}
 use Rattle.blocks.proofs.pointers.comes_first.Tie as tie
 
 abbrev Inv-loop : tie.InvT-loop
-Inv-loop t n p slot k₀ k = (k ≤ place-count p) × (order (slot-starts (rows n t)) (drop k (places p)) ≡ [])
+Inv-loop t n last p free slot k₀ k = (k ≤ place-count p) × (order (slot-starts (rows n t)) (drop k (places p)) ≡ [])
 
 abbrev μ-loop : tie.MeasureT-loop
-μ-loop t n p slot k₀ k = k
-
-place-count-requires : tie.Need-place-count-requires Inv-loop μ-loop
-place-count-requires c κs = search needs
+μ-loop t n last p free slot k₀ k = k
 
 loop-holds : tie.Need-loop-holds Inv-loop μ-loop
 loop-holds c =
-    let a = c .before .before .before .args in
-    (omega arith, rw (c .place-count .ensures) (order-none (slot-starts (rows (a .n) (a .t .now))) (a .p .now)))
+    let s = c .before .before in
+    let a = s .args in
+    (omega (arith, s .pre .1 .within), none-above (slot-starts (rows (a .n) (a .t .now))) (a .p .now) (a .free) (s .pre .1))
 
 sub-k : tie.Need-sub-k Inv-loop μ-loop
 sub-k c = search needs
 
-judge-place-requires : tie.Need-judge-place-requires Inv-loop μ-loop
-judge-place-requires c κs = search needs
+place-value-requires : tie.Need-place-value-requires Inv-loop μ-loop
+place-value-requires c κs = search needs
+
+judge-requires : tie.Need-judge-requires Inv-loop μ-loop
+judge-requires c κs = search needs
 
 is-live-requires : tie.Need-is-live-requires Inv-loop μ-loop
 is-live-requires c κs = search needs
@@ -43,16 +44,16 @@ returns : tie.Need-returns Inv-loop μ-loop
 returns c =
     let at-if1 = c .before in
     let at-is-live = at-if1 .before in
-    let at-judge-place = at-is-live .before in
-    let at = at-judge-place .before .before in
-    let start = at .before .before .before .before in
-    let a = start .args in
+    let at-judge = at-is-live .before in
+    let at-place-value = at-judge .before in
+    let at = at-place-value .before .before in
+    let a = at .before .before .before .args in
     let k = at .loop .k - 1 in
     let same : k + 1 ≡ at .loop .k = omega arith in
-    let live = sym (rw (at-judge-place .judge-place .ensures) at (at-is-live .is-live .ensures))
-    ∙ at-if1 .if1 .taken in
+    let judgement = rw (at-place-value .place-value .ensures) at (at-judge .judge .ensures) in
+    let live = sym (rw judgement at (at-is-live .is-live .ensures)) ∙ at-if1 .if1 .taken in
     c .gives .ensures
-    ∙ rw (at-judge-place .judge-place .ensures)
+    ∙ rw judgement
     (sym (first-found (slot-starts (rows (a .n) (a .t .now))) (a .p .now) k (omega arith) (rw same
     (at .loop .inv .1))
     (a .slot .0) live))
@@ -63,14 +64,14 @@ loop-less c = search needs
 loop-again : tie.Need-loop-again Inv-loop μ-loop
 loop-again c =
     let at-is-live = c .before in
-    let at-judge-place = at-is-live .before in
-    let at = at-judge-place .before .before in
-    let start = at .before .before .before .before in
-    let a = start .args in
+    let at-judge = at-is-live .before in
+    let at-place-value = at-judge .before in
+    let at = at-place-value .before .before in
+    let a = at .before .before .before .args in
     let k = at .loop .k - 1 in
     let same : k + 1 ≡ at .loop .k = omega arith in
-    let not-live = sym (rw (at-judge-place .judge-place .ensures) at (at-is-live .is-live .ensures))
-    ∙ c .if1 .left in (
+    let judgement = rw (at-place-value .place-value .ensures) at (at-judge .judge .ensures) in
+    let not-live = sym (rw judgement at (at-is-live .is-live .ensures)) ∙ c .if1 .left in (
       omega arith,
       first-goes (slot-starts (rows (a .n) (a .t .now))) (a .p .now) k (omega arith) (rw same
           (at .loop .inv .1)) not-live,
@@ -89,10 +90,10 @@ comes-first-spec =
     (tie.spec
     Inv-loop
     μ-loop
-    place-count-requires
     loop-holds
     sub-k
-    judge-place-requires
+    place-value-requires
+    judge-requires
     is-live-requires
     gives-requires
     returns

@@ -1,87 +1,110 @@
--- `giving` meets its contract. The loop's invariant: the places below k that give the slot are noted. Assumes nothing.
-use mathlib.Core.Path.{_≡_, refl, sym, _∙_}
-use mathlib.Core.List.{_++_}
-use Prim.Native.Nat.{_+_, _-_, _≤_}
+-- `giving` meets its contract. The loop's invariant: the places below the next that give the slot are noted.
+-- Assumes nothing.
+use mathlib.Core.Path.{_≡_, refl, sym, ap, _∙_}
+use mathlib.Core.List.{List, _++_, append-nil}
+use Prim.Native.Nat.{ℕ, _+_, _-_, _*_, _≤_}
 use native.Mathlib.Omega.{arith}
-use lib.ListN.{length, take, drop}
+use lib.ListN.{length, drop}
+use lib.Seq.{append-snoc}
 use borrow.Author.Needs.{needs}
 use Rattle.rules.specs.Table.{rows, slot-starts}
 use Rattle.rules.specs.Pointers.{places}
 use Rattle.rules.specs.Commands.{giving}
 use Rattle.rules.proofs.PointerHeader.{layout}
-use Rattle.jobs.specs.Parts.{place-room}
-use Rattle.blocks.proofs.Walking.{giving-goes, room-kept, giving-over}
+use Rattle.jobs.specs.Jobs.{place-room, numbers-from}
+use Rattle.blocks.proofs.Walking.{giving-goes, giving-here, giving-over}
+use Rattle.blocks.proofs.Noting.{noted-more}
 use Rattle.blocks.proofs.pointers.giving.Statement.{statement}
 use Rattle.blocks.proofs.pointers.giving.Tie as tie
 
 abbrev Inv-loop : tie.InvT-loop
-Inv-loop t n p slot count found₀ k₀ found k =
-    (((found .count ≤ k) × (k ≤ count)) × (length (found .places) ≡ place-room))
-    × (take (found .count) (found .places) ++ giving (slot-starts (rows n t)) (slot .0) k (drop k (places p))
+Inv-loop t n last p free slot start numbers₀ met₀ next₀ numbers met next =
+    (((met ≤ next) × (next ≤ free)) × (length numbers ≡ 2 * place-room))
+    × (numbers-from met numbers ++ giving (slot-starts (rows n t)) (slot .0) next (drop next (places p))
     ≡ giving (slot-starts (rows n t)) (slot .0) 0 (places p))
 
 abbrev μ-loop : tie.MeasureT-loop
-μ-loop t n p slot count found₀ k₀ found k = count - k
-
-place-count-requires : tie.Need-place-count-requires Inv-loop μ-loop
-place-count-requires c κs = search needs
+μ-loop t n last p free slot start numbers₀ met₀ next₀ numbers met next = free - next
 
 loop-holds : tie.Need-loop-holds Inv-loop μ-loop
-loop-holds c = (((search needs, search needs), refl), refl)
+unfolding numbers-from
+loop-holds c = (((search needs, search needs), search needs), refl)
 
-judge-place-requires : tie.Need-judge-place-requires Inv-loop μ-loop
-judge-place-requires c κs = search needs
+add-next : tie.Need-add-next Inv-loop μ-loop
+add-next c = search needs
 
-gives-requires : tie.Need-gives-requires Inv-loop μ-loop
-gives-requires c κs = search needs
+does-give-requires : tie.Need-does-give-requires Inv-loop μ-loop
+does-give-requires c κs = search needs
+
+slice-aggregate-note : tie.Need-slice-aggregate-note Inv-loop μ-loop
+slice-aggregate-note c = search needs
 
 note-requires : tie.Need-note-requires Inv-loop μ-loop
 note-requires c κs =
     let s = c .before .before .before .before .before .before .before in
-    let room = layout (s .args .p .now) (s .pre .pointers .stands) .1 in
-    (omega arith, omega arith)
+    let room = layout (s .args .p .now) (s .pre .0 .0 .pointers .stands) .1 in
+    let within = s .pre .0 .1 .within in
+    (search needs, (omega arith, omega arith))
 
-add-k : tie.Need-add-k Inv-loop μ-loop
-add-k c = search needs
+add-met : tie.Need-add-met Inv-loop μ-loop
+add-met c = search needs
 
 loop-less : tie.Need-loop-less Inv-loop μ-loop
 loop-less c = search needs
 
 loop-again : tie.Need-loop-again Inv-loop μ-loop
 loop-again c =
-    let at-gives = c .before in
-    let at-judge-place = at-gives .before in
-    let at = at-judge-place .before .before in
-    let s = at .before .before .before .before in
+    let at-note = c .before in
+    let at-if1 = at-note .before .before in
+    let at-does-give = at-if1 .before in
+    let at = at-does-give .before .before in
+    let s = at .before .before .before in
     let a = s .args in
     let starts = slot-starts (rows (a .n) (a .t .now)) in
-    let found = at .loop .found in
-    let room = layout (a .p .now) (s .pre .pointers .stands) .1 in
-    let wanted = rw (at-judge-place .judge-place .ensures) at (at-gives .gives .ensures) in (
-      (
-        (omega arith, omega arith),
-        room-kept starts (a .slot .0) (a .p .now) (at .loop .k) found (c .note .result) (at-gives .gives .result)
-            (omega arith)
-            (omega arith) wanted (c .note .ensures .0)
-            ∙ at .loop .inv .0 .1,
-      ),
-      sym (giving-goes starts (a .slot .0) (a .p .now) (at .loop .k) found (c .note .result) (at-gives .gives .result)
-          (omega arith)
-          (omega arith) wanted (c .note .ensures .0))
-          ∙ at .loop .inv .1,
+    let p = a .p .now in
+    let k = at .loop .next in
+    let met = at .loop .met in
+    let numbers = at .loop .numbers in
+    let room = layout p (s .pre .0 .0 .pointers .stands) .1 in
+    let within = s .pre .0 .1 .within in
+    let here = giving-here starts (a .slot .0) p k (omega arith)
+    (sym (at-does-give .does-give .ensures) ∙ at-if1 .if1 .taken) in
+    let more = at-note .note .ensures in (
+      ((omega arith, omega arith), search needs),
+      rw (more, noted-more met k numbers (omega arith))
+          (append-snoc (numbers-from met numbers) k (giving starts (a .slot .0) (k + 1) (drop (k + 1) (places p)))
+          ∙ ap (λ (ks : List ℕ). numbers-from met numbers ++ ks) (sym here)
+          ∙ at .loop .inv .1),
     )
+
+loop-less-2 : tie.Need-loop-less-2 Inv-loop μ-loop
+loop-less-2 c = search needs
+
+loop-again-2 : tie.Need-loop-again-2 Inv-loop μ-loop
+loop-again-2 c =
+    let at-does-give = c .before in
+    let at = at-does-give .before .before in
+    let s = at .before .before .before in
+    let a = s .args in
+    let within = s .pre .0 .1 .within in
+    let goes = giving-goes (slot-starts (rows (a .n) (a .t .now))) (a .slot .0) (a .p .now) (at .loop .next) (omega arith)
+    (sym (at-does-give .does-give .ensures) ∙ c .if1 .left) in
+    (((omega arith, omega arith), at .loop .inv .0 .1), rw (← goes) (at .loop .inv .1))
 
 returns : tie.Need-returns Inv-loop μ-loop
 returns c =
     let at = c .before in
-    let s = at .before .before .before .before in
+    let s = at .before .before .before in
     let a = s .args in
-    let room = layout (a .p .now) (s .pre .pointers .stands) .1 in (
-      sym (giving-over (slot-starts (rows (a .n) (a .t .now))) (a .slot .0) (a .p .now) (at .loop .k)
-          (at .loop .found) (omega arith))
-          ∙ at .loop .inv .1,
-      omega arith,
-    )
+    let all : at .loop .next ≡ a .free = omega arith in
+    let over = giving-over (slot-starts (rows (a .n) (a .t .now))) (a .slot .0) (a .p .now) (at .loop .next)
+    (rw all (s .pre .0 .1)) in
+    let room = layout (a .p .now) (s .pre .0 .0 .pointers .stands) .1 in
+    let within = s .pre .0 .1 .within in
+    record {
+      numbers = sym (append-nil (numbers-from (at .loop .met) (at .loop .numbers))) ∙ rw over at (at .loop .inv .1);
+      room = omega arith;
+    }
 
 pub giving-spec : {M : Type 1} → statement M
 giving-spec =
@@ -89,12 +112,14 @@ giving-spec =
     (tie.spec
     Inv-loop
     μ-loop
-    place-count-requires
     loop-holds
-    judge-place-requires
-    gives-requires
+    add-next
+    does-give-requires
+    slice-aggregate-note
     note-requires
-    add-k
+    add-met
     loop-less
     loop-again
+    loop-less-2
+    loop-again-2
     returns)

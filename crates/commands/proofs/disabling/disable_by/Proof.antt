@@ -1,15 +1,17 @@
 -- `disable_by` refuses or starts disable as its definition says. Assumes nothing.
-use mathlib.Core.Path.{_≡_, refl}
+use mathlib.Core.Path.{_≡_, _∙_}
 use Prim.Native.Nat.{_<_}
 use native.Mathlib.Omega.{arith}
-use lib.ListN.{length, take, length-take}
+use lib.ListN.{length}
 use borrow.Author.Needs.{needs}
 use Rattle.rules.specs.Numbers.{setting}
 use Rattle.rules.specs.Table.{rows, slot-starts}
 use Rattle.rules.specs.Commands.{disable-steps, job, disable}
-use Rattle.jobs.specs.Parts.{place-room}
+use Rattle.jobs.specs.Jobs.{numbers-from}
+use Rattle.jobs.proofs.PlaceNumbers.{length-numbers}
+use Rattle.blocks.specs.Walked.{Readable}
 use Rattle.commands.specs.Asked.{Located}
-use Rattle.commands.proofs.Locating.{located, readable}
+use Rattle.commands.proofs.Locating.{located, few-entries, readable}
 use Rattle.commands.proofs.Asking.{begins-refused, begins-started, disable-refused, disable-refused-8, disable-given, slot-below}
 use Rattle.commands.proofs.disabling.disable_by.Statement.{statement}
 use Rattle.commands.proofs.disabling.disable_by.Tie as tie
@@ -20,9 +22,18 @@ where-blocks-are s =
     located (setting (s .args .granule) (s .args .v .spt0) (s .args .v .spt1)) (s .args .image .now) (s .args .v)
     (s .pre)
 
--- the array of the places that were found has its length
-room-noted : (c : tie.After-giving) → length (c .giving .result .places) ≡ place-room
-room-noted c = search needs
+-- the table and the pointer block read
+blocks-read : (c : tie.After-last-slots)
+    → Readable (c .before .before .before .block-at .result .now) (c .before .entry-count .result) (c .last-slots .result)
+    (c .before .before .block-at2 .result .now)
+blocks-read c =
+    let at-block-at2 = c .before .before in
+    let at-block-at = at-block-at2 .before in
+    let s = at-block-at .before .before .before .before .before in
+    readable (s .args .image .now) (s .args .v) (at-block-at .block-at .result .now)
+    (at-block-at2 .block-at2 .result .now) (c .before .entry-count .result) (c .last-slots .result) (where-blocks-are s)
+    (at-block-at .block-at .ensures) (at-block-at2 .block-at2 .ensures) (c .before .entry-count .ensures)
+    (c .last-slots .ensures)
 
 ask-slot-requires : tie.Need-ask-slot-requires
 ask-slot-requires c κs =
@@ -51,15 +62,40 @@ block-at-requires-2 c κs =
 entry-count-requires : tie.Need-entry-count-requires
 entry-count-requires c κs = search needs
 
+last-slots-requires : tie.Need-last-slots-requires
+last-slots-requires c κs =
+    let at-block-at = c .before .before in
+    let s = at-block-at .before .before .before .before .before in (
+      at-block-at .block-at .ensures .1,
+      few-entries (s .args .image .now) (s .args .v) (at-block-at .block-at .result .now) (c .entry-count .result)
+          (where-blocks-are s)
+          (at-block-at .block-at .ensures .0) (c .entry-count .ensures),
+    )
+
+slot-start-requires : tie.Need-slot-start-requires
+slot-start-requires c κs =
+    let at-entry-count = c .before in
+    let at-block-at = at-entry-count .before .before in
+    let at-enum-told = at-block-at .before in
+    let at-ask-slot = at-enum-told .before .before in
+    let s = at-ask-slot .before .before in
+    let a = s .args in
+    let read = blocks-read c in (
+      ((read .whole, read .few), read .ends),
+      slot-below (setting (a .granule) (a .v .spt0) (a .v .spt1)) (a .image .now) (a .v) (s .pre) (a .slot .0)
+          (at-ask-slot .ask-slot .result)
+          (at-ask-slot .ask-slot .ensures)
+          (at-enum-told .enum-told .given .1) (at-block-at .block-at .result .now) (at-entry-count .entry-count .result)
+          (at-block-at .block-at .ensures .0) (at-entry-count .entry-count .ensures),
+    )
+
+free-place-requires : tie.Need-free-place-requires
+free-place-requires c κs = blocks-read (c .before) .pointers
+
 giving-requires : tie.Need-giving-requires
 giving-requires c κs =
-    let at-block-at2 = c .before in
-    let at-block-at = at-block-at2 .before in
-    let s = at-block-at .before .before .before .before .before in
-    let l = where-blocks-are s in
-    readable (s .args .image .now) (s .args .v) (at-block-at .block-at .result .now)
-    (at-block-at2 .block-at2 .result .now) (c .entry-count .result) l
-    (at-block-at .block-at .ensures) (at-block-at2 .block-at2 .ensures) (c .entry-count .ensures)
+    let at-slot-start = c .before in
+    ((blocks-read (at-slot-start .before), c .free-place .ensures .1), at-slot-start .slot-start .ensures)
 
 refuse-requires-2 : tie.Need-refuse-requires-2
 refuse-requires-2 c κs = search needs
@@ -68,7 +104,7 @@ returns : tie.Need-returns
 returns c =
     let at-if1 = c .before in
     let at-giving = at-if1 .before .before in
-    let at-entry-count = at-giving .before in
+    let at-entry-count = at-giving .before .before .before .before in
     let at-block-at2 = at-entry-count .before in
     let at-block-at = at-block-at2 .before in
     let at-enum-told = at-block-at .before in
@@ -78,51 +114,32 @@ returns c =
     let img = a .image .now in
     let st = setting (a .granule) (a .v .spt0) (a .v .spt1) in
     let t = at-block-at .block-at .result .now in
-    let ks = take (at-giving .giving .result .count) (at-giving .giving .result .places) in
-    let none : length ks ≡ 0 = rw (at-if1 .if1 .taken) refl in
+    let found = at-giving .giving .result in
+    let ks = numbers-from (found .count) (found .places) in
+    let none : length ks ≡ 0 = length-numbers (found .count) (found .places) ∙ at-if1 .if1 .taken in
     begins-refused (c .refuse2 .result) (length img) (a .granule) (job st img (a .v) (disable (a .slot .0))) 8
     (c .refuse2 .ensures)
     (disable-refused-8 st img (a .v) (s .pre) (a .slot .0) (at-ask-slot .ask-slot .result)
     (at-ask-slot .ask-slot .ensures) (at-enum-told .enum-told .given .1) t
     (at-entry-count .entry-count .result) (at-block-at .block-at .ensures .0) (at-entry-count .entry-count .ensures)
     (at-block-at2 .block-at2 .result .now)
-    (at-block-at2 .block-at2 .ensures .0) ks (at-giving .giving .ensures .0) none)
+    (at-block-at2 .block-at2 .ensures .0) ks (at-giving .giving .ensures .numbers) none)
 
 cast-disable-job : tie.Need-cast-disable-job
 cast-disable-job c =
-    let s = c .before .before .before .before .before .before .before .before .before .before .before in
+    let s = c .before .before .before .before .before .before .before .before .before .before .before .before .before .before in
     let l = where-blocks-are s in omega (arith, l .cpb0-inside, l .short)
 
 cast-disable-job-2 : tie.Need-cast-disable-job-2
 cast-disable-job-2 c =
-    let s = c .before .before .before .before .before .before .before .before .before .before .before .before in
+    let s = c .before .before .before .before .before .before .before .before .before .before .before .before .before .before .before in
     let l = where-blocks-are s in omega (arith, l .cpb1-inside, l .short)
 
 disable-job-requires : tie.Need-disable-job-requires
 disable-job-requires c κs =
     let at-giving = c .before .before .before .before in
-    let at-entry-count = at-giving .before in
-    let at-block-at2 = at-entry-count .before in
-    let at-block-at = at-block-at2 .before in
-    let at-enum-told = at-block-at .before in
-    let at-ask-slot = at-enum-told .before .before in
-    let s = at-ask-slot .before .before in
-    let l = where-blocks-are s in
-    let a = s .args in
-    let img = a .image .now in
-    let st = setting (a .granule) (a .v .spt0) (a .v .spt1) in
-    let t = at-block-at .block-at .result .now in
-    let n = at-entry-count .entry-count .result in (
-      (
-        readable img (a .v) t (at-block-at2 .block-at2 .result .now) n l (at-block-at .block-at .ensures)
-            (at-block-at2 .block-at2 .ensures) (at-entry-count .entry-count .ensures),
-        slot-below st img (a .v) (s .pre) (a .slot .0) (at-ask-slot .ask-slot .result)
-            (at-ask-slot .ask-slot .ensures)
-            (at-enum-told .enum-told .given .1) t n
-            (at-block-at .block-at .ensures .0) (at-entry-count .entry-count .ensures),
-      ),
-      at-giving .giving .ensures .0,
-    )
+    let at-slot-start = at-giving .before .before in
+    ((blocks-read (at-slot-start .before), at-slot-start .slot-start .ensures), at-giving .giving .ensures)
 
 begun-requires : tie.Need-begun-requires
 begun-requires c κs = search needs
@@ -147,7 +164,7 @@ returns-3 c =
     let at-disable-job = c .before in
     let at-if1 = at-disable-job .before .before .before in
     let at-giving = at-if1 .before .before in
-    let at-entry-count = at-giving .before in
+    let at-entry-count = at-giving .before .before .before .before in
     let at-block-at2 = at-entry-count .before in
     let at-block-at = at-block-at2 .before in
     let at-enum-told = at-block-at .before in
@@ -160,9 +177,8 @@ returns-3 c =
     let p = at-block-at2 .block-at2 .result .now in
     let n = at-entry-count .entry-count .result in
     let found = at-giving .giving .result in
-    let ks = take (found .count) (found .places) in
-    let room : length (found .places) ≡ place-room = room-noted (at-giving) in
-    let some : 0 < length ks = simp length-take (omega (arith, at-giving .giving .ensures .1, at-if1 .if1 .left)) in
+    let ks = numbers-from (found .count) (found .places) in
+    let some : 0 < length ks = omega (arith, length-numbers (found .count) (found .places), at-if1 .if1 .left) in
     begins-started (c .begun .result) (length img) (a .granule) (job st img (a .v) (disable (a .slot .0)))
     (at-disable-job .disable-job .result)
     (disable-steps (a .v .cpb0) (a .v .cpb1) (slot-starts (rows n t)) p (a .slot .0)) (c .begun .ensures)
@@ -170,7 +186,7 @@ returns-3 c =
     (disable-given st img (a .v) (s .pre) (a .slot .0) (at-ask-slot .ask-slot .result)
     (at-ask-slot .ask-slot .ensures) (at-enum-told .enum-told .given .1) t n
     (at-block-at .block-at .ensures .0) (at-entry-count .entry-count .ensures) p
-    (at-block-at2 .block-at2 .ensures .0) ks (at-giving .giving .ensures .0) some)
+    (at-block-at2 .block-at2 .ensures .0) ks (at-giving .giving .ensures .numbers) some)
 
 pub disable-by-spec : {M : Type 1} → statement M
 disable-by-spec =
@@ -183,6 +199,9 @@ disable-by-spec =
     block-at-requires
     block-at-requires-2
     entry-count-requires
+    last-slots-requires
+    slot-start-requires
+    free-place-requires
     giving-requires
     refuse-requires-2
     returns

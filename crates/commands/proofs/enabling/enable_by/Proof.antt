@@ -6,7 +6,7 @@ use Rattle.rules.specs.Numbers.{setting}
 use Rattle.rules.specs.Table.{rows, slot-starts}
 use Rattle.rules.specs.Commands.{enable-steps, job, enable}
 use Rattle.commands.specs.Asked.{Located}
-use Rattle.commands.proofs.Locating.{located, readable}
+use Rattle.commands.proofs.Locating.{located, few-entries, readable}
 use Rattle.commands.proofs.Asking.{begins-refused, begins-started, enable-refused, enable-given, slot-below}
 use Rattle.commands.proofs.enabling.enable_by.Statement.{statement}
 use Rattle.commands.proofs.enabling.enable_by.Tie as tie
@@ -44,19 +44,30 @@ block-at-requires-2 c κs =
 entry-count-requires : tie.Need-entry-count-requires
 entry-count-requires c κs = search needs
 
+last-slots-requires : tie.Need-last-slots-requires
+last-slots-requires c κs =
+    let at-block-at = c .before .before in
+    let s = at-block-at .before .before .before .before .before in (
+      at-block-at .block-at .ensures .1,
+      few-entries (s .args .image .now) (s .args .v) (at-block-at .block-at .result .now) (c .entry-count .result)
+          (where-blocks-are s)
+          (at-block-at .block-at .ensures .0) (c .entry-count .ensures),
+    )
+
 cast-enable-job : tie.Need-cast-enable-job
 cast-enable-job c =
-    let s = c .before .before .before .before .before .before .before .before in
+    let s = c .before .before .before .before .before .before .before .before .before in
     let l = where-blocks-are s in omega (arith, l .cpb0-inside, l .short)
 
 cast-enable-job-2 : tie.Need-cast-enable-job-2
 cast-enable-job-2 c =
-    let s = c .before .before .before .before .before .before .before .before .before in
+    let s = c .before .before .before .before .before .before .before .before .before .before in
     let l = where-blocks-are s in omega (arith, l .cpb1-inside, l .short)
 
 enable-job-requires : tie.Need-enable-job-requires
 enable-job-requires c κs =
-    let at-entry-count = c .before .before in
+    let at-last-slots = c .before .before in
+    let at-entry-count = at-last-slots .before in
     let at-block-at2 = at-entry-count .before in
     let at-block-at = at-block-at2 .before in
     let at-enum-told = at-block-at .before in
@@ -68,8 +79,9 @@ enable-job-requires c κs =
     let st = setting (a .granule) (a .v .spt0) (a .v .spt1) in
     let t = at-block-at .block-at .result .now in
     let n = at-entry-count .entry-count .result in (
-      readable img (a .v) t (at-block-at2 .block-at2 .result .now) n l (at-block-at .block-at .ensures)
-          (at-block-at2 .block-at2 .ensures) (at-entry-count .entry-count .ensures),
+      readable img (a .v) t (at-block-at2 .block-at2 .result .now) n (at-last-slots .last-slots .result) l
+          (at-block-at .block-at .ensures) (at-block-at2 .block-at2 .ensures) (at-entry-count .entry-count .ensures)
+          (at-last-slots .last-slots .ensures),
       slot-below st img (a .v) (s .pre) (a .slot .0) (at-ask-slot .ask-slot .result) (at-ask-slot .ask-slot .ensures)
           (at-enum-told .enum-told .given .1) t n
           (at-block-at .block-at .ensures .0) (at-entry-count .entry-count .ensures),
@@ -96,7 +108,7 @@ returns c =
 returns-2 : tie.Need-returns-2
 returns-2 c =
     let at-enable-job = c .before in
-    let at-entry-count = at-enable-job .before .before .before in
+    let at-entry-count = at-enable-job .before .before .before .before in
     let at-block-at2 = at-entry-count .before in
     let at-block-at = at-block-at2 .before in
     let at-enum-told = at-block-at .before in
@@ -128,6 +140,7 @@ enable-by-spec =
     block-at-requires
     block-at-requires-2
     entry-count-requires
+    last-slots-requires
     cast-enable-job
     cast-enable-job-2
     enable-job-requires

@@ -1,14 +1,17 @@
 -- `enable_job` denotes the listed steps of enable. Assumes nothing.
 use mathlib.Core.Path.{sym, _∙_}
 use native.Mathlib.Omega.{arith}
-use lib.ListN.{take}
 use borrow.Author.Needs.{needs}
 use Rattle.rules.specs.Table.{rows, slot-starts}
 use Rattle.rules.proofs.PointerHeader.{layout, places-fit}
+use Rattle.jobs.specs.Jobs.{numbers-from}
 use Rattle.blocks.proofs.JobSteps.{lists-same}
 use Rattle.commands.proofs.CommandSteps.{enable-none, enable-place, enable-rewrite}
 use Rattle.commands.proofs.enabling.enable_job.Statement.{statement}
 use Rattle.commands.proofs.enabling.enable_job.Tie as tie
+
+free-place-requires : tie.Need-free-place-requires
+free-place-requires c κs = search needs
 
 comes-first-requires : tie.Need-comes-first-requires
 comes-first-requires c κs = search needs
@@ -20,7 +23,7 @@ returns : tie.Need-returns
 returns c =
     let at-if1 = c .before in
     let at-comes-first = at-if1 .before in
-    let start = at-comes-first .before .before .before in
+    let start = at-comes-first .before .before .before .before in
     let a = start .args in
     lists-same (c .no-steps .ensures)
     (enable-none (a .cpb0) (a .cpb1) (slot-starts (rows (a .n) (a .t .now))) (a .p .now) (a .slot .0)
@@ -28,9 +31,6 @@ returns c =
 
 slot-start-requires : tie.Need-slot-start-requires
 slot-start-requires c κs = search needs
-
-free-place-requires : tie.Need-free-place-requires
-free-place-requires c κs = search needs
 
 place-count-requires : tie.Need-place-count-requires
 place-count-requires c κs = search needs
@@ -62,21 +62,22 @@ returns-2 c =
     let at-one-place = at-place-offset .before .before in
     let at-if2 = at-one-place .before in
     let at-place-count = at-if2 .before in
-    let at-free-place = at-place-count .before in
-    let at-slot-start = at-free-place .before in
+    let at-slot-start = at-place-count .before in
     let at-if1 = at-slot-start .before in
     let at-comes-first = at-if1 .before in
-    let start = at-comes-first .before .before .before in
+    let at-free-place = at-comes-first .before in
+    let start = at-free-place .before .before .before in
     let a = start .args in
     lists-same (c .into-places .ensures)
     (enable-place (a .cpb0) (a .cpb1) (slot-starts (rows (a .n) (a .t .now))) (a .p .now) (a .slot .0)
     (sym (at-comes-first .comes-first .ensures) ∙ at-if1 .if1 .left) (at-free-place .free-place .result)
-    (at-slot-start .slot-start .result) (at-free-place .free-place .ensures)
-    (at-slot-start .slot-start .ensures) (at-place-offset .place-offset .result) (take
+    (at-slot-start .slot-start .result)
+    (at-free-place .free-place .ensures .0 (slot-starts (rows (a .n) (a .t .now))))
+    (at-slot-start .slot-start .ensures) (at-place-offset .place-offset .result) (numbers-from
     (at-one-place .one-place .result .count) (at-one-place .one-place .result .places))
     (at-bytes-of .bytes-of .result) (omega (arith, at-place-count .place-count .ensures, at-if2 .if2 .taken))
     (at-place-offset .place-offset .ensures)
-    (at-one-place .one-place .ensures) (at-bytes-of .bytes-of .ensures))
+    (at-one-place .one-place .ensures .numbers) (at-bytes-of .bytes-of .ensures))
 
 order-with-first-requires : tie.Need-order-with-first-requires
 order-with-first-requires c κs = search needs
@@ -89,16 +90,17 @@ returns-3 c =
     let at-order-with-first = c .before in
     let at-if2 = at-order-with-first .before in
     let at-place-count = at-if2 .before in
-    let at-free-place = at-place-count .before in
-    let at-slot-start = at-free-place .before in
+    let at-slot-start = at-place-count .before in
     let at-if1 = at-slot-start .before in
     let at-comes-first = at-if1 .before in
-    let start = at-comes-first .before .before .before in
+    let at-free-place = at-comes-first .before in
+    let start = at-free-place .before .before .before in
     let a = start .args in
     lists-same (c .pair-rewritten .ensures)
     (enable-rewrite (a .cpb0) (a .cpb1) (slot-starts (rows (a .n) (a .t .now))) (a .p .now) (a .slot .0)
     (sym (at-comes-first .comes-first .ensures) ∙ at-if1 .if1 .left) (at-free-place .free-place .result)
-    (at-slot-start .slot-start .result) (at-free-place .free-place .ensures)
+    (at-slot-start .slot-start .result)
+    (at-free-place .free-place .ensures .0 (slot-starts (rows (a .n) (a .t .now))))
     (at-slot-start .slot-start .ensures) (at-order-with-first .order-with-first .result) (omega
     (arith, at-place-count .place-count .ensures, at-if2 .if2 .left))
     (at-order-with-first .order-with-first .ensures))
@@ -107,11 +109,11 @@ pub enable-job-spec : {M : Type 1} → statement M
 enable-job-spec =
     tie.close
     (tie.spec
+    free-place-requires
     comes-first-requires
     no-steps-requires
     returns
     slot-start-requires
-    free-place-requires
     place-count-requires
     one-place-requires
     place-offset-requires

@@ -1,6 +1,7 @@
 -- `repair_by` starts repair as its definition says. Assumes nothing.
 use mathlib.Core.List.{_++_}
 use lib.ListN.{length}
+use native.Mathlib.Omega.{arith}
 use borrow.Author.Needs.{needs}
 use Rattle.rules.specs.Numbers.{setting}
 use Rattle.rules.specs.Commands.{job, repair}
@@ -27,7 +28,7 @@ repaired-requires-2 : tie.Need-repaired-requires-2
 repaired-requires-2 c κs =
     let s = c .before .before in
     let l = where-blocks-are s in
-    ((l .cpb0-inside, l .cpb1-inside), (l .pointers-inside, l .short))
+    ((l .cpb0-inside, l .cpb1-inside), (omega (arith, l .pointers-inside, l .cpb0-inside), l .short))
 
 rewrites-requires : tie.Need-rewrites-requires
 rewrites-requires c κs = search needs

@@ -10,12 +10,12 @@ block-at-requires c κs = search needs
 block-at-requires-2 : tie.Need-block-at-requires-2
 block-at-requires-2 c κs = search needs
 
-same-bytes-requires : tie.Need-same-bytes-requires
-same-bytes-requires c κs = search needs
+same-stretches-requires : tie.Need-same-stretches-requires
+same-stretches-requires c κs = search needs
 
 returns : tie.Need-returns
-returns c = c .same-bytes .ensures ∙ rw (c .before .before .block-at .ensures .0, c .before .block-at2 .ensures .0)
+returns c = c .same-stretches .ensures ∙ rw (c .before .before .block-at .ensures .0, c .before .block-at2 .ensures .0)
 
 pub same-blocks-spec : {M : Type 1} → statement M
 same-blocks-spec =
-    tie.close (tie.spec block-at-requires block-at-requires-2 same-bytes-requires returns)
+    tie.close (tie.spec block-at-requires block-at-requires-2 same-stretches-requires returns)

@@ -1,35 +1,30 @@
--- `same_bytes` meets its contract. The loop's invariant: what is left is equal exactly if all is. Assumes nothing.
-use mathlib.Core.Path.{_≡_, sym, _∙_}
+-- `same_bytes` meets its contract. The loop's invariant: all is equal exactly if what was seen and what is left are.
+-- Assumes nothing.
+use mathlib.Core.Path.{_≡_, _∙_}
+use mathlib.Core.Bool.{_&&_}
 use Prim.Native.Nat.{_-_}
 use native.Mathlib.Omega.{arith}
 use lib.ListN.{length, drop}
 use borrow.Author.Needs.{needs}
 use Rattle.rules.specs.Lists.{same}
-use Rattle.commands.proofs.EqualCopies.{same-goes, same-fails, same-over}
+use Rattle.commands.proofs.EqualCopies.{same-turn, same-over}
 use Rattle.commands.proofs.pairs.same_bytes.Statement.{statement}
 use Rattle.commands.proofs.pairs.same_bytes.Tie as tie
 
 abbrev Inv-loop : tie.InvT-loop
-Inv-loop a b i₀ i = same a b ≡ same (drop i a) (drop i b)
+Inv-loop a b equal₀ i₀ equal i = equal && same (drop i a) (drop i b) ≡ same a b
 
 abbrev μ-loop : tie.MeasureT-loop
-μ-loop a b i₀ i = length a - i
+μ-loop a b equal₀ i₀ equal i = length a - i
 
 loop-holds : tie.Need-loop-holds Inv-loop μ-loop
 loop-holds c = search needs
 
-shared-slice-read-if1 : tie.Need-shared-slice-read-if1 Inv-loop μ-loop
-shared-slice-read-if1 c = search needs
+shared-slice-read-equal : tie.Need-shared-slice-read-equal Inv-loop μ-loop
+shared-slice-read-equal c = search needs
 
-shared-slice-read-if1-2 : tie.Need-shared-slice-read-if1-2 Inv-loop μ-loop
-shared-slice-read-if1-2 c = search needs
-
-returns : tie.Need-returns Inv-loop μ-loop
-returns c =
-    let at = c .before .before .before .before in
-    let s = at .before in
-    let a = s .args in
-    sym (at .loop .inv ∙ same-fails (a .a .now) (a .b .now) (at .loop .i) (omega arith) (s .pre) (c .if1 .taken))
+shared-slice-read-equal-2 : tie.Need-shared-slice-read-equal-2 Inv-loop μ-loop
+shared-slice-read-equal-2 c = search needs
 
 add-i : tie.Need-add-i Inv-loop μ-loop
 add-i c = search needs
@@ -39,17 +34,17 @@ loop-less c = search needs
 
 loop-again : tie.Need-loop-again Inv-loop μ-loop
 loop-again c =
-    let at = c .before .before .before .before in
+    let at = c .before .before .before in
     let s = at .before in
     let a = s .args in
-    at .loop .inv ∙ same-goes (a .a .now) (a .b .now) (at .loop .i) (omega arith) (s .pre) (c .if1 .left)
+    same-turn (a .a .now) (a .b .now) (at .loop .i) (at .loop .equal) (s .pre) (omega arith) ∙ at .loop .inv
 
-returns-2 : tie.Need-returns-2 Inv-loop μ-loop
-returns-2 c =
+returns : tie.Need-returns Inv-loop μ-loop
+returns c =
     let at = c .before in
-    let s = c .before .before in
+    let s = at .before in
     let a = s .args in
-    sym (at .loop .inv ∙ same-over (a .a .now) (a .b .now) (at .loop .i) (omega arith) (s .pre))
+    same-over (a .a .now) (a .b .now) (at .loop .i) (at .loop .equal) (s .pre) (omega arith) ∙ at .loop .inv
 
 pub same-bytes-spec : {M : Type 1} → statement M
 same-bytes-spec =
@@ -58,10 +53,9 @@ same-bytes-spec =
     Inv-loop
     μ-loop
     loop-holds
-    shared-slice-read-if1
-    shared-slice-read-if1-2
-    returns
+    shared-slice-read-equal
+    shared-slice-read-equal-2
     add-i
     loop-less
     loop-again
-    returns-2)
+    returns)

@@ -1,0 +1,93 @@
+-- The pointers of an order without a slot, put one by one from the order's end. Assumes nothing.
+use mathlib.Core.Path.{_≡_, refl, sym, ap, _∙_}
+use mathlib.Core.List.{List, [], _∷_, _++_, map, reverse, reverse-cons, map-append}
+use Prim.Native.Nat.{ℕ, zero, suc, _-_, _≤_, _<_}
+use native.Mathlib.Nat.{le-of-suc-le-suc, not-suc-le-zero}
+use native.Mathlib.Omega.{arith}
+use borrow.Author.Tests.{eq-eqb, ne-eqb}
+use lib.ListN.{length, getD, take, drop, length-map, length-reverse}
+use lib.Seq.{drop-cons, drop-length, take-append-seam}
+use Rattle.rules.specs.Lists.{without}
+use Rattle.rules.specs.Table.{rows, slots, slot-starts}
+use Rattle.rules.specs.Pointers.{order}
+use Rattle.rules.specs.Commands.{pointers-of}
+use Rattle.rules.proofs.OnceEach.{Once, once-order, once-first, once-length}
+use Rattle.walks.specs.Entries.{most-entries}
+use Rattle.slots.proofs.Last.{few-slots}
+use Rattle.places.proofs.BootOrder.{order-fits}
+use Rattle.blocks.specs.Walked.{SlotNumbers}
+
+-- ---- one pointer more
+
+pub pointers-first : (k : ℕ) (starts o : List ℕ)
+    → pointers-of starts (k ∷ o) ≡ pointers-of starts o ++ (getD starts k 0 ∷ [])
+unfolding pointers-of
+pointers-first k starts o =
+    ap (map (λ j. getD starts j 0)) (reverse-cons k o) ∙ map-append (λ j. getD starts j 0) (reverse o) (k ∷ [])
+
+pub length-pointers : (starts o : List ℕ) → length (pointers-of starts o) ≡ length o
+unfolding pointers-of
+length-pointers starts o = simp (length-map, length-reverse)
+
+-- the pointers put once a walk has come down to place i of an order
+abbrev pub put-from : ℕ → List ℕ → List ℕ → ℕ → List ℕ
+put-from k starts o i = pointers-of starts (without k (drop i o))
+
+pub none-put : (k : ℕ) (starts o : List ℕ) → put-from k starts o (length o) ≡ []
+unfolding pointers-of without
+none-put k starts o = rw (drop-length o)
+
+-- one turn of that walk, down to place i - 1
+module _ (k : ℕ) (starts o : List ℕ) (i : ℕ) (above : 0 < i) (within : i ≤ length o) where
+  next-of-order : drop (i - 1) o ≡ getD o (i - 1) 0 ∷ drop i o
+  next-of-order =
+      let e : suc (i - 1) ≡ i = omega arith in
+      drop-cons o (i - 1) 0 (omega arith) ∙ ap (λ (m : ℕ). getD o (i - 1) 0 ∷ drop m o) e
+
+  pub left-out-turn : getD o (i - 1) 0 ≡ k → put-from k starts o (i - 1) ≡ put-from k starts o i
+  unfolding without
+  left-out-turn e = rw (next-of-order, e, eq-eqb k k refl)
+
+  pub put-turn : (getD o (i - 1) 0 ≡ k → ⊥)
+      → put-from k starts o (i - 1) ≡ put-from k starts o i ++ (getD starts (getD o (i - 1) 0) 0 ∷ [])
+  unfolding without
+  put-turn other =
+      rw (next-of-order, ne-eqb k (getD o (i - 1) 0) (λ e. other (sym e)))
+      (pointers-first (getD o (i - 1) 0) starts (without k (drop i o)))
+
+-- ---- the boot order as a row of slot numbers
+
+below-at : (n : ℕ) (o : List ℕ) (i : ℕ) → Once n o → i < length o → getD o i 0 < n
+below-at n [] i h l = absurd (not-suc-le-zero l)
+below-at n (x ∷ o) zero (_, b, _) l = b
+below-at n (x ∷ o) (suc i) (_, _, h) l = below-at n o i h (le-of-suc-le-suc l)
+
+module _ (n : ℕ) (t vs : List ℕ) where
+  same-length : length (slot-starts (rows n t)) ≡ length (slots (rows n t))
+  unfolding slot-starts
+  same-length = simp length-map
+
+  pub few-in-order : length (order (slot-starts (rows n t)) vs) ≤ n
+  few-in-order = omega (arith, order-fits (rows n t) vs, few-slots n t)
+
+  pub numbers-of-order : n ≤ most-entries
+      → SlotNumbers (length (slots (rows n t))) (order (slot-starts (rows n t)) vs)
+  numbers-of-order few =
+      let starts = slot-starts (rows n t) in
+      record {
+        few = omega (arith, few-in-order);
+        below = λ i l. rw (← same-length) (below-at (length starts) (order starts vs) i (once-order starts vs) l);
+      }
+
+  -- there is room for a slot in front
+  pub room-for-first : (k : ℕ) → k < length (slots (rows n t)) → length (without k (order (slot-starts (rows n t)) vs)) < n
+  room-for-first k there =
+      let starts = slot-starts (rows n t) in
+      let most = once-length (length starts) (k ∷ without k (order starts vs))
+      (once-first (length starts) k (order starts vs) (omega (arith, same-length)) (once-order starts vs)) in
+      omega (arith, most, same-length, few-slots n t)
+
+-- an order at the front of a row
+pub front-of-row : (o row after : List ℕ) (len : ℕ) → len ≡ length o → after ≡ o ++ drop (length o) row
+    → take len after ≡ o
+front-of-row o row after len el ea = rw (el, ea) (take-append-seam o (drop (length o) row))

@@ -1,0 +1,34 @@
+-- `does_give` tells whether a place gives a slot. Assumes nothing.
+use mathlib.Core.Path.{sym, _∙_}
+use borrow.Author.Needs.{needs}
+use Rattle.rules.specs.Table.{rows, slot-starts}
+use Rattle.blocks.proofs.Walking.{other-value}
+use Rattle.blocks.proofs.pointers.does_give.Statement.{statement}
+use Rattle.blocks.proofs.pointers.does_give.Tie as tie
+
+place-value-requires : tie.Need-place-value-requires
+place-value-requires c κs = search needs
+
+returns : tie.Need-returns
+returns c =
+    let at-place-value = c .before in
+    let s = at-place-value .before .before .before in
+    let a = s .args in
+    rw (← at-place-value .place-value .ensures)
+    (sym (other-value (slot-starts (rows (a .n) (a .t .now))) (a .slot .0) (at-place-value .place-value .result) (a .start)
+    (s .pre .1) (c .if1 .taken)))
+
+judge-requires : tie.Need-judge-requires
+judge-requires c κs = search needs
+
+gives-requires : tie.Need-gives-requires
+gives-requires c κs = search needs
+
+returns-2 : tie.Need-returns-2
+returns-2 c =
+    let at-judge = c .before in
+    c .gives .ensures ∙ rw (at-judge .judge .ensures, at-judge .before .before .place-value .ensures)
+
+pub does-give-spec : {M : Type 1} → statement M
+does-give-spec =
+    tie.close (tie.spec place-value-requires returns judge-requires gives-requires returns-2)

@@ -1,0 +1,28 @@
+-- `store32` stores the two halves of a number. Assumes nothing.
+use borrow.Author.Needs.{needs}
+use Rattle.fields.proofs.Stored.{halves-stored}
+use Rattle.fields.proofs.stores.store32.Tie as tie
+use Rattle.fields.proofs.stores.store32.Statement.{statement}
+
+store16-requires : tie.Need-store16-requires
+store16-requires c κs = search needs
+
+add-store16 : tie.Need-add-store16
+add-store16 c = search needs
+
+store16-requires-2 : tie.Need-store16-requires-2
+store16-requires-2 c κs = search needs
+
+same-length : tie.Need-same-length
+same-length c = search needs
+
+returns : tie.Need-returns
+returns c =
+    let at-second = c .before .before in
+    let at-first = at-second .before .before .before .before in
+    let s = at-first .before .before .before in
+    halves-stored 2 (s .args .at) (s .args .v) (s .args .out .now) (s .pre) (at-first .store16 .ensures) (at-second .store162 .ensures)
+
+pub store32-spec : {M : Type 1} → statement M
+store32-spec =
+    tie.close (tie.spec store16-requires add-store16 store16-requires-2 same-length returns)

@@ -1,0 +1,45 @@
+// Little-endian numbers stored into lent bytes, and lent bytes copied.
+ghost use mathlib.Core.Path.{_≡_};
+ghost use Prim.Native.Nat.{_+_, _≤_};
+ghost use lib.ListN.{length};
+ghost use Rattle.rules.specs.Bytes.{bytes-of};
+ghost use Rattle.rules.specs.Final.{put-at};
+
+// The 8 bytes of a number at an offset.
+pub fn store64(out: &mut [u8], at: usize, v: u64)
+    requires { ⌜ at + 8 ≤ length (now out) ⌝ }
+    ensures { λ _. ⌜ now (out .exit) ≡ put-at at (bytes-of 8 v) (now (out .entry)) ⌝ }
+{
+    store32(out, at, v);
+    store32(out, at + 4, v / 0x1_0000_0000);
+}
+
+// The 4 lowest bytes of a number at an offset.
+pub fn store32(out: &mut [u8], at: usize, v: u64)
+    requires { ⌜ at + 4 ≤ length (now out) ⌝ }
+    ensures { λ _. ⌜ now (out .exit) ≡ put-at at (bytes-of 4 v) (now (out .entry)) ⌝ }
+{
+    store16(out, at, v);
+    store16(out, at + 2, v / 0x1_0000);
+}
+
+// The 2 lowest bytes of a number at an offset.
+pub fn store16(out: &mut [u8], at: usize, v: u64)
+    requires { ⌜ at + 2 ≤ length (now out) ⌝ }
+    ensures { λ _. ⌜ now (out .exit) ≡ put-at at (bytes-of 2 v) (now (out .entry)) ⌝ }
+{
+    out[at] = (v % 256) as u8;
+    out[at + 1] = (v / 256 % 256) as u8;
+}
+
+// The bytes given at an offset.
+pub fn copy(out: &mut [u8], at: usize, given: &[u8])
+    requires { ⌜ at + length (now given) ≤ length (now out) ⌝ }
+    ensures { λ _. ⌜ now (out .exit) ≡ put-at at (now (given .entry)) (now (out .entry)) ⌝ }
+{
+    let mut i = 0;
+    while i < given.len() {
+        out[at + i] = given[i];
+        i += 1;
+    }
+}

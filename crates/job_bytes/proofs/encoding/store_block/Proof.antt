@@ -1,0 +1,51 @@
+-- `store_block` puts a block that is to be rewritten. Assumes nothing.
+use lib.ListN.{length}
+use borrow.Author.Needs.{needs}
+use Rattle.job_bytes.specs.Form.{block-over}
+use Rattle.job_bytes.proofs.Filling.{put-own}
+use Rattle.job_bytes.proofs.encoding.store_block.Statement.{statement}
+use Rattle.job_bytes.proofs.encoding.store_block.Tie as tie
+
+enum-told : tie.Need-enum-told
+enum-told c = search needs
+
+enum-told-2 : tie.Need-enum-told-2
+enum-told-2 c = search needs
+
+copy-requires : tie.Need-copy-requires
+copy-requires c κs = search needs
+
+enum-told-3 : tie.Need-enum-told-3
+enum-told-3 c = search needs
+
+returns : tie.Need-returns
+unfolding block-over
+returns c =
+    let s = c .before .before .before .before in
+    rw (c .enum-told .given .1) (put-own (s .args .at) (length (s .args .block .now)) (s .args .out .now) (s .pre))
+
+same-length : tie.Need-same-length
+same-length c = search needs
+
+returns-2 : tie.Need-returns-2
+unfolding block-over
+returns-2 c = rw ((c .before .before .before .before) .enum-told2 .given .1) (c .before .before .copy .ensures)
+
+returns-3 : tie.Need-returns-3
+unfolding block-over
+returns-3 c =
+    let s = c .before .before .before .before in
+    rw (c .enum-told3 .given .1) (put-own (s .args .at) (length (s .args .block .now)) (s .args .out .now) (s .pre))
+
+pub store-block-spec : {M : Type 1} → statement M
+store-block-spec =
+    tie.close
+    (tie.spec
+    enum-told
+    enum-told-2
+    copy-requires
+    enum-told-3
+    returns
+    same-length
+    returns-2
+    returns-3)

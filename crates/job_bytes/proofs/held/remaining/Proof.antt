@@ -1,0 +1,29 @@
+-- `remaining` is the number of steps that remain of the job that bytes hold. Assumes nothing.
+use mathlib.Core.Path.{_∙_}
+use borrow.Author.Needs.{needs}
+use Rattle.jobs.proofs.Running.{remain}
+use Rattle.job_bytes.specs.Form.{job-from}
+use Rattle.job_bytes.proofs.Advancing.{arrays-held}
+use Rattle.job_bytes.proofs.held.remaining.Statement.{statement}
+use Rattle.job_bytes.proofs.held.remaining.Tie as tie
+
+plan-from-requires : tie.Need-plan-from-requires
+plan-from-requires c κs = search needs
+
+done-from-requires : tie.Need-done-from-requires
+done-from-requires c κs = search needs
+
+remaining-of-requires : tie.Need-remaining-of-requires
+remaining-of-requires c κs = search needs
+
+returns : tie.Need-returns
+unfolding job-from
+returns c =
+    let s = c .before .before .before .before in
+    let bs = s .args .bytes .now in
+    remain (job-from bs) (arrays-held bs (s .pre)) (c .remaining-of .result)
+    (c .remaining-of .ensures ∙ rw (c .before .before .plan-from .ensures, c .before .done-from .ensures))
+
+pub remaining-spec : {M : Type 1} → statement M
+remaining-spec =
+    tie.close (tie.spec plan-from-requires done-from-requires remaining-of-requires returns)

@@ -1,0 +1,105 @@
+-- `are_inside` is the test of the steps into places from one on. Assumes nothing.
+use mathlib.Core.Path.{_≡_, sym, _∙_}
+use Prim.Native.Nat.{_+_, _≤_, _-_, min}
+use native.Mathlib.Omega.{arith}
+use lib.ListN.{drop}
+use borrow.Author.Tests.{not-true, not-false}
+use borrow.Author.Needs.{needs}
+use Rattle.jobs.proofs.PlaceNumbers.{number-cons, numbers-over}
+use Rattle.jobs.proofs.PlaceSteps.{inside-cons, inside-none}
+use Rattle.jobs.specs.Jobs.{place-room, meant}
+use Rattle.jobs.specs.Parts.{places-inside}
+use Rattle.jobs.proofs.into_places.are_inside.Statement.{statement}
+use Rattle.jobs.proofs.into_places.are_inside.Tie as tie
+
+abbrev Inv-loop : tie.InvT-loop
+Inv-loop len at offset places count from end skip₀ i₀ skip i = (i ≤ end) × (places-inside len at offset from
+    (meant count places) ≡ places-inside len at offset skip (drop i (meant count places)))
+
+abbrev μ-loop : tie.MeasureT-loop
+μ-loop len at offset places count from end skip₀ i₀ skip i = end - i
+
+least-requires : tie.Need-least-requires Inv-loop μ-loop
+least-requires c κs = search needs
+
+loop-holds : tie.Need-loop-holds Inv-loop μ-loop
+loop-holds c = search needs
+
+number-at-requires : tie.Need-number-at-requires Inv-loop μ-loop
+number-at-requires c κs = search needs
+
+place-address-requires : tie.Need-place-address-requires Inv-loop μ-loop
+place-address-requires c κs = search needs
+
+are-inside-requires : tie.Need-are-inside-requires Inv-loop μ-loop
+are-inside-requires c κs = search needs
+
+returns : tie.Need-returns Inv-loop μ-loop
+returns c =
+    let at-are-inside = c .before in
+    let at-place-address = at-are-inside .before in
+    let at-number = at-place-address .before in
+    let at = at-number .before .before in
+    let a = at .before .before .before .args in
+    let outside = sym (at-are-inside .are-inside .ensures) ∙ not-true (at-are-inside .are-inside .result)
+    (c .if1 .taken) in
+    sym (at .loop .inv .1
+    ∙ inside-cons (a .len) (a .at) (a .offset) (at .loop .skip) (at-number .number-at .result)
+    (drop (at .loop .i + 1) (meant (a .count) (a .places .now))) (drop (at .loop .i) (meant (a .count) (a .places .now)))
+    (at-place-address .place-address .result) (at-place-address .place-address .ensures .0)
+    (number-cons (min (a .count) place-room) (at .loop .i) (at-number .number-at .result) (a .places .now) (at-number .number-at .ensures) (omega arith))
+    ∙ rw outside)
+
+less-requires : tie.Need-less-requires Inv-loop μ-loop
+less-requires c κs = search needs
+
+add-i : tie.Need-add-i Inv-loop μ-loop
+add-i c = search needs
+
+loop-less : tie.Need-loop-less Inv-loop μ-loop
+loop-less c = search needs
+
+loop-again : tie.Need-loop-again Inv-loop μ-loop
+loop-again c =
+    let at-if1 = c .before in
+    let at-are-inside = at-if1 .before in
+    let at-place-address = at-are-inside .before in
+    let at-number = at-place-address .before in
+    let at = at-number .before .before in
+    let a = at .before .before .before .args in
+    let inside = sym (at-are-inside .are-inside .ensures) ∙ not-false (at-are-inside .are-inside .result)
+    (at-if1 .if1 .left) in (
+      omega arith,
+      at .loop .inv .1
+          ∙ inside-cons (a .len) (a .at) (a .offset) (at .loop .skip) (at-number .number-at .result)
+          (drop (at .loop .i + 1) (meant (a .count) (a .places .now))) (drop (at .loop .i) (meant (a .count) (a .places .now)))
+          (at-place-address .place-address .result) (at-place-address .place-address .ensures .0)
+          (number-cons (min (a .count) place-room) (at .loop .i) (at-number .number-at .result) (a .places .now) (at-number .number-at .ensures) (omega arith))
+          ∙ rw (inside, c .less .ensures),
+    )
+
+returns-2 : tie.Need-returns-2 Inv-loop μ-loop
+returns-2 c =
+    let at = c .before in
+    let a = at .before .before .before .args in
+    sym (at .loop .inv .1
+    ∙ inside-none (a .len) (a .at) (a .offset) (at .loop .skip) (drop (at .loop .i) (meant (a .count) (a .places .now)))
+    (numbers-over (min (a .count) place-room) (at .loop .i) (a .places .now) (omega arith)))
+
+pub are-inside-spec : {M : Type 1} → statement M
+are-inside-spec =
+    tie.close
+    (tie.spec
+    Inv-loop
+    μ-loop
+    least-requires
+    loop-holds
+    number-at-requires
+    place-address-requires
+    are-inside-requires
+    returns
+    less-requires
+    add-i
+    loop-less
+    loop-again
+    returns-2)

@@ -1,0 +1,51 @@
+-- `next_in_places` is the first of the steps into places from one on. Assumes nothing.
+use mathlib.Core.Path.{sym, _∙_}
+use native.Mathlib.Omega.{arith}
+use Prim.Native.Nat.{min}
+use borrow.Author.Needs.{needs}
+use Rattle.jobs.specs.Jobs.{place-room, meant}
+use Rattle.jobs.proofs.PlaceNumbers.{length-numbers}
+use Rattle.jobs.proofs.PlaceSteps.{next-place-read, no-next-place}
+use Rattle.jobs.proofs.into_places.next_in_places.Statement.{statement}
+use Rattle.jobs.proofs.into_places.next_in_places.Tie as tie
+
+least-requires : tie.Need-least-requires
+least-requires c κs = search needs
+
+returns : tie.Need-returns
+returns c =
+    let s = c .before .before .before .before in
+    let a = s .args in
+    sym (no-next-place (a .at) (a .offset) (a .value .now) (s .pre .1) (a .from) (meant (a .count) (a .places .now))
+    (rw (length-numbers (min (a .count) place-room) (a .places .now)) (omega arith)))
+
+number-at-requires : tie.Need-number-at-requires
+number-at-requires c κs = search needs
+
+place-address-requires : tie.Need-place-address-requires
+place-address-requires c κs = search needs
+
+next-program-requires : tie.Need-next-program-requires
+next-program-requires c κs = search needs
+
+returns-2 : tie.Need-returns-2
+returns-2 c =
+    let at-place-address = c .before in
+    let at-number = at-place-address .before in
+    let s = at-number .before .before .before .before .before in
+    let a = s .args in
+    c .next-program .ensures
+    ∙ next-place-read (a .at) (a .offset) (a .value .now) (s .pre .1) (a .from) (min (a .count) place-room)
+    (a .places .now) (at-number .number-at .result) (at-place-address .place-address .result)
+    (at-number .number-at .ensures) (at-place-address .place-address .ensures .0) (omega arith)
+
+pub next-in-places-spec : {M : Type 1} → statement M
+next-in-places-spec =
+    tie.close
+    (tie.spec
+    least-requires
+    returns
+    number-at-requires
+    place-address-requires
+    next-program-requires
+    returns-2)

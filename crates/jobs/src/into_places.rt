@@ -1,0 +1,129 @@
+// Eight bytes into each of some places of a pointer block: of these steps, those from one on.
+use super::Next;
+use super::device;
+use super::numbers;
+use super::programs;
+ghost use mathlib.Core.Path.{_≡_};
+ghost use mathlib.Core.Bool.{true};
+ghost use Prim.Native.Nat.{ℕ, _+_, _*_, _≤_};
+ghost use lib.ListN.{length, take, drop};
+ghost use Rattle.rules.specs.Bytes.{field};
+ghost use Rattle.rules.specs.Steps.{steps, programs};
+ghost use Rattle.rules.specs.Commands.{into-places};
+ghost use Rattle.jobs.specs.Jobs.{place-room, meant, first-step};
+ghost use Rattle.jobs.specs.Parts.{highest-address, programs-inside, places-inside};
+
+// The room for places' numbers in a job.
+pub const PLACE_ROOM: usize = 508;
+
+// The number of two bytes at an index, lowest byte first.
+fn number_at(places: &[u8], i: usize) -> u16
+    requires { ⌜ 2 * i + 2 ≤ length (now places) ⌝ }
+    ensures { λ r. ⌜ r ≡ field (2 * i) 2 (now (places .entry)) ⌝ }
+{
+    fields::le16(places, 2 * i) as u16
+}
+
+// Where a place of the block at an address begins.
+fn place_address(at: u32, offset: u32, place: u16) -> usize
+    ensures { λ r. ⌜ (r ≡ at + (offset + 8 * place)) × (r ≤ highest-address) ⌝ }
+{
+    at as usize + (offset as usize + 8 * (place as usize))
+}
+
+// Do at most n of the steps into the place at an address, whatever the granule. Mostly these are all eight.
+fn do_place(image: &mut [u8], at: usize, value: &[u8], from: usize, n: usize)
+    requires { ⌜ (length (now value) ≡ 8) × (programs-inside (length (now image)) at 8 from ≡ true) ⌝ }
+    ensures { λ _. ⌜
+        ((g : ℕ) → now (image .exit)
+        ≡ steps g (take n (drop from (programs at (now (value .entry))))) (now (image .entry)))
+        ⌝ }
+{
+    if (from == 0) & (8 <= n) {
+        device::program_eight(image, at, value);
+        return;
+    }
+    programs::do_programs(image, at, value, from, n);
+}
+
+// Do at most n of these steps, whatever the granule.
+pub fn do_places<'a>(
+    image: &mut [u8],
+    at: u32,
+    offset: u32,
+    places: &'a [u8],
+    count: usize,
+    value: &'a [u8],
+    from: usize,
+    n: usize,
+)
+    requires { ⌜
+        ((length (now places) ≡ 2 * place-room) × (length (now value) ≡ 8))
+        × (places-inside (length (now image)) at offset from (meant count (now places)) ≡ true)
+        ⌝ }
+    ensures { λ _. ⌜
+        ((g : ℕ) → now (image .exit)
+        ≡ steps g (take n (drop from (into-places at offset (now (value .entry)) (meant count (now (places .entry))))))
+        (now (image .entry)))
+        ⌝ }
+{
+    let end = numbers::least(count, PLACE_ROOM);
+    let mut skip = from;
+    let mut m = n;
+    let mut i = 0;
+    while i < end {
+        let place = number_at(places, i);
+        do_place(image, place_address(at, offset, place), value, skip, m);
+        m = numbers::less(m, numbers::less(8, skip));
+        skip = numbers::less(skip, 8);
+        i += 1;
+    }
+}
+
+// These steps reach nothing outside an image of that length.
+pub fn are_inside(
+    len: usize,
+    at: u32,
+    offset: u32,
+    places: &[u8],
+    count: usize,
+    from: usize,
+) -> bool
+    requires { ⌜ length (now places) ≡ 2 * place-room ⌝ }
+    ensures { λ r. ⌜ r ≡ places-inside len at offset from (meant count (now (places .entry))) ⌝ }
+{
+    let end = numbers::least(count, PLACE_ROOM);
+    let mut skip = from;
+    let mut i = 0;
+    while i < end {
+        let place = number_at(places, i);
+        if !programs::are_inside(len, place_address(at, offset, place), 8, skip) {
+            return false;
+        }
+        skip = numbers::less(skip, 8);
+        i += 1;
+    }
+    true
+}
+
+// The first of them.
+pub fn next_in_places<'a>(
+    at: u32,
+    offset: u32,
+    places: &'a [u8],
+    count: usize,
+    value: &'a [u8],
+    from: usize,
+) -> Next
+    requires { ⌜ (length (now places) ≡ 2 * place-room) × (length (now value) ≡ 8) ⌝ }
+    ensures { λ r. ⌜
+        r ≡ first-step (drop from (into-places at offset (now (value .entry)) (meant count (now (places .entry)))))
+        ⌝ }
+{
+    let i = from / 8;
+    if numbers::least(count, PLACE_ROOM) <= i {
+        return Next::Finished;
+    }
+    let place = number_at(places, i);
+    programs::next_program(place_address(at, offset, place), value, from % 8)
+}

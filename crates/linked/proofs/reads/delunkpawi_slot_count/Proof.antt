@@ -1,0 +1,33 @@
+-- `delunkpawi_slot_count` answers with the number of slots. Assumes nothing.
+use mathlib.Core.Path.{sym, ap, _∙_}
+use borrow.Author.Needs.{needs}
+use Rattle.reading.specs.Answers.{counted}
+use Rattle.linked.proofs.Numbered.{number-refused, kept-refused, number-given, kept-given}
+use Rattle.linked.proofs.reads.delunkpawi_slot_count.Statement.{statement}
+use Rattle.linked.proofs.reads.delunkpawi_slot_count.Tie as tie
+
+slot-count-requires : tie.Need-slot-count-requires
+slot-count-requires c κs = search needs
+
+enum-known-counted : tie.Need-enum-known-counted
+enum-known-counted c = search needs
+
+enum-known-counted-2 : tie.Need-enum-known-counted-2
+enum-known-counted-2 c = search needs
+
+returns : tie.Need-returns
+unfolding counted
+returns c =
+    let e = sym (ap counted (c .before .counted .given .1)) ∙ c .before .before .before .slot-count .ensures in
+    (number-refused e, kept-refused (λ n. n) (c .before .before .before .before .before .args .count .now) e)
+
+returns-2 : tie.Need-returns-2
+unfolding counted
+returns-2 c =
+    let e = sym (ap counted (c .before .counted2 .given .1)) ∙ c .before .before .before .slot-count .ensures in
+    (number-given e, kept-given (λ n. n) (c .before .before .before .before .before .args .count .now) e)
+
+pub delunkpawi-slot-count-spec : {M : Type 1} → statement M
+delunkpawi-slot-count-spec =
+    tie.close
+    (tie.spec slot-count-requires enum-known-counted enum-known-counted-2 returns returns-2)

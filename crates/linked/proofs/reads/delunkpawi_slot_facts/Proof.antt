@@ -1,0 +1,50 @@
+-- `delunkpawi_slot_facts` answers with what is known of a slot. Assumes nothing.
+use mathlib.Core.Path.{sym, ap, _∙_}
+use borrow.Author.Needs.{needs}
+use Rattle.reading.specs.Answers.{known}
+use Rattle.linked.proofs.Numbered.{number-refused, kept-refused, number-given, kept-given}
+use Rattle.linked.proofs.reads.delunkpawi_slot_facts.Statement.{statement}
+use Rattle.linked.proofs.reads.delunkpawi_slot_facts.Tie as tie
+
+slot-facts-requires : tie.Need-slot-facts-requires
+slot-facts-requires c κs = search needs
+
+enum-known-known : tie.Need-enum-known-known
+enum-known-known c = search needs
+
+enum-known-known-2 : tie.Need-enum-known-known-2
+enum-known-known-2 c = search needs
+
+returns : tie.Need-returns
+unfolding known
+returns c =
+    let a = c .before .before .before .before .before .args in
+    let e = sym (ap known (c .before .known .given .1)) ∙ c .before .before .before .slot-facts .ensures in (
+      number-refused e,
+      (
+        kept-refused (λ f. f .entry .0) (a .entry .now) e,
+        (
+          kept-refused (λ f. f .start) (a .start .now) e,
+          (kept-refused (λ f. f .size) (a .size .now) e, kept-refused (λ f. f .flags) (a .flags .now) e),
+        ),
+      ),
+    )
+
+returns-2 : tie.Need-returns-2
+unfolding known
+returns-2 c =
+    let a = c .before .before .before .before .before .before .args in
+    let e = sym (ap known (c .before .before .known2 .given .1)) ∙ c .before .before .before .before .slot-facts .ensures in (
+      number-given e,
+      (
+        kept-given (λ f. f .entry .0) (a .entry .now) e,
+        (
+          kept-given (λ f. f .start) (a .start .now) e,
+          (kept-given (λ f. f .size) (a .size .now) e, kept-given (λ f. f .flags) (a .flags .now) e),
+        ),
+      ),
+    )
+
+pub delunkpawi-slot-facts-spec : {M : Type 1} → statement M
+delunkpawi-slot-facts-spec =
+    tie.close (tie.spec slot-facts-requires enum-known-known enum-known-known-2 returns returns-2)

@@ -1,0 +1,80 @@
+-- `delunkpawi_slot_name` answers with the name of a slot, if it fits. Assumes nothing.
+use mathlib.Core.Path.{sym, ap, _∙_}
+use lib.ListN.{length}
+use borrow.Author.Needs.{needs}
+use Rattle.rules.specs.Numbers.{setting}
+use Rattle.rules.specs.Readers.{row-after, slot-name}
+use Rattle.rules.specs.Answers.{given}
+use Rattle.reading.specs.Answers.{known}
+use Rattle.linked.proofs.Numbered.{number-given, kept-given}
+use Rattle.linked.proofs.Named.{name-refused, name-too-long, name-given, put-front, written-refused}
+use Rattle.linked.proofs.reads.delunkpawi_slot_name.Statement.{statement}
+use Rattle.linked.proofs.reads.delunkpawi_slot_name.Tie as tie
+
+slot-facts-requires : tie.Need-slot-facts-requires
+slot-facts-requires c κs = search needs
+
+enum-known-known : tie.Need-enum-known-known
+enum-known-known c = search needs
+
+enum-told : tie.Need-enum-told
+enum-told c = search needs
+
+slot-name-requires : tie.Need-slot-name-requires
+slot-name-requires c κs = search needs
+
+returns : tie.Need-returns
+unfolding known
+returns c =
+    let a = c .before .before .before .before .before .before .before .args in
+    let s = setting (a .granule) (a .spt0) (a .spt1) in
+    let f = sym (ap known (c .before .before .enum-told .given .1)) ∙ c .before .before .before .before .slot-facts .ensures in
+    written-refused (a .name .now) (a .count .now)
+    (name-too-long s (a .image .now) (a .slot) (length (a .name .now)) f (rw (← c .before .slot-name .ensures) (c .if1 .taken)))
+
+put-bytes-requires : tie.Need-put-bytes-requires
+put-bytes-requires c κs = search needs
+
+returns-2 : tie.Need-returns-2
+unfolding known
+returns-2 c =
+    let a = c .before .before .before .before .before .before .args in
+    let s = setting (a .granule) (a .spt0) (a .spt1) in
+    let f = sym (ap known (c .before .known .given .1)) ∙ c .before .before .before .slot-facts .ensures in
+    written-refused (a .name .now) (a .count .now) (name-refused s (a .image .now) (a .slot) (length (a .name .now)) f)
+
+same-length : tie.Need-same-length
+same-length c = search needs
+
+returns-3 : tie.Need-returns-3
+unfolding known
+returns-3 c =
+    let at-if1 = c .before .before .before .before in
+    let at-enum-told = at-if1 .before .before in
+    let at-slot-facts = at-enum-told .before .before in
+    let a = at-slot-facts .before .before .before .args in
+    let s = setting (a .granule) (a .spt0) (a .spt1) in
+    let f = sym (ap known (at-enum-told .enum-told .given .1)) ∙ at-slot-facts .slot-facts .ensures in
+    let found = at-if1 .before .slot-name .ensures in
+    let e = name-given s (a .image .now) (a .slot) (length (a .name .now)) f (rw (← found) (at-if1 .if1 .left)) in
+    record {
+      returned = number-given e;
+      row-left =
+          put-front (c .before .before .put-bytes .ensures) (at-if1 .if1 .left)
+          ∙ ap (λ x. row-after x (a .name .now)) (ap given found ∙ e);
+      count-left = ap length found ∙ kept-given length (a .count .now) e;
+    }
+
+pub delunkpawi-slot-name-spec : {M : Type 1} → statement M
+delunkpawi-slot-name-spec =
+    tie.close
+    (tie.spec
+    slot-facts-requires
+    enum-known-known
+    enum-told
+    slot-name-requires
+    returns
+    put-bytes-requires
+    returns-2
+    same-length
+    returns-3)

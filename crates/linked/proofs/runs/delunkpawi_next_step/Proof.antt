@@ -1,0 +1,73 @@
+-- `delunkpawi_next_step` tells the next step of the job that bytes hold. Assumes nothing.
+use mathlib.Core.Path.{_∙_}
+use borrow.Author.Needs.{needs}
+use Rattle.jobs.specs.Jobs.{next-of}
+use Rattle.job_bytes.proofs.Advancing.{length-of-job}
+use Rattle.linked.specs.StepNumbers.{step-kind, step-address, step-byte}
+use Rattle.linked.proofs.Numbered.{number-refused, kept-refused, number-given, kept-given}
+use Rattle.linked.proofs.Held.{holds-none, holds-one, job-held}
+use Rattle.linked.proofs.runs.delunkpawi_next_step.Statement.{statement}
+use Rattle.linked.proofs.runs.delunkpawi_next_step.Tie as tie
+
+is-job-requires : tie.Need-is-job-requires
+is-job-requires c κs = search needs
+
+returns : tie.Need-returns
+returns c =
+    let t = c .before .is-job in
+    let a = c .before .before .before .args in
+    let e = holds-none (a .job .now) (t .result) (t .ensures) (c .if1 .taken) in (
+      number-refused e,
+      (
+        kept-refused (λ j. step-kind (next-of j)) (a .kind .now) e,
+        (
+          kept-refused (λ j. step-address (next-of j)) (a .address .now) e,
+          kept-refused (λ j. step-byte (next-of j)) (a .byte .now) e,
+        ),
+      ),
+    )
+
+next-step-requires : tie.Need-next-step-requires
+next-step-requires c κs =
+    let t = c .before .is-job in
+    let a = c .before .before .before .args in
+    length-of-job (a .job .now) (holds-one (a .job .now) (t .result) (t .ensures) (c .if1 .left))
+
+kind-of-requires : tie.Need-kind-of-requires
+kind-of-requires c κs = search needs
+
+address-of-requires : tie.Need-address-of-requires
+address-of-requires c κs = search needs
+
+byte-of-requires : tie.Need-byte-of-requires
+byte-of-requires c κs = search needs
+
+returns-2 : tie.Need-returns-2
+returns-2 c =
+    let at-next-step = c .before .before .before in
+    let at-if1 = at-next-step .before in
+    let t = at-if1 .before .is-job in
+    let a = at-if1 .before .before .before .args in
+    let e = job-held (a .job .now) (t .result) (t .ensures) (at-if1 .if1 .left) in
+    let next = at-next-step .next-step .ensures in (
+      number-given e,
+      (
+        c .before .before .kind-of .ensures ∙ rw next (kept-given (λ j. step-kind (next-of j)) (a .kind .now) e),
+        (
+          c .before .address-of .ensures ∙ rw next (kept-given (λ j. step-address (next-of j)) (a .address .now) e),
+          c .byte-of .ensures ∙ rw next (kept-given (λ j. step-byte (next-of j)) (a .byte .now) e),
+        ),
+      ),
+    )
+
+pub delunkpawi-next-step-spec : {M : Type 1} → statement M
+delunkpawi-next-step-spec =
+    tie.close
+    (tie.spec
+    is-job-requires
+    returns
+    next-step-requires
+    kind-of-requires
+    address-of-requires
+    byte-of-requires
+    returns-2)

@@ -1,0 +1,36 @@
+-- `delunkpawi_remaining` tells how many steps remain of the job that bytes hold. Assumes nothing.
+use mathlib.Core.Path.{_∙_}
+use borrow.Author.Needs.{needs}
+use Rattle.jobs.specs.Jobs.{steps-left}
+use Rattle.job_bytes.proofs.Advancing.{length-of-job}
+use Rattle.linked.proofs.Numbered.{number-refused, kept-refused, number-given, kept-given}
+use Rattle.linked.proofs.Held.{holds-none, holds-one, job-held}
+use Rattle.linked.proofs.runs.delunkpawi_remaining.Statement.{statement}
+use Rattle.linked.proofs.runs.delunkpawi_remaining.Tie as tie
+
+is-job-requires : tie.Need-is-job-requires
+is-job-requires c κs = search needs
+
+returns : tie.Need-returns
+returns c =
+    let t = c .before .is-job in
+    let a = c .before .before .before .args in
+    let e = holds-none (a .job .now) (t .result) (t .ensures) (c .if1 .taken) in
+    (number-refused e, kept-refused steps-left (a .count .now) e)
+
+remaining-requires : tie.Need-remaining-requires
+remaining-requires c κs =
+    let t = c .before .is-job in
+    let a = c .before .before .before .args in
+    length-of-job (a .job .now) (holds-one (a .job .now) (t .result) (t .ensures) (c .if1 .left))
+
+returns-2 : tie.Need-returns-2
+returns-2 c =
+    let t = c .before .before .is-job in
+    let a = c .before .before .before .before .args in
+    let e = job-held (a .job .now) (t .result) (t .ensures) (c .before .if1 .left) in
+    (number-given e, c .remaining .ensures ∙ kept-given steps-left (a .count .now) e)
+
+pub delunkpawi-remaining-spec : {M : Type 1} → statement M
+delunkpawi-remaining-spec =
+    tie.close (tie.spec is-job-requires returns remaining-requires returns-2)

@@ -1,0 +1,85 @@
+-- `delunkpawi_run` runs the job that bytes hold and leaves the advanced job in them. Assumes nothing.
+use borrow.Author.Needs.{needs}
+use Rattle.linked.proofs.Held.{holds-none, holds-one, job-held}
+use Rattle.linked.proofs.AfterRun.{run-malformed, run-refused, run-went}
+use Rattle.linked.proofs.runs.delunkpawi_run.Statement.{statement}
+use Rattle.linked.proofs.runs.delunkpawi_run.Tie as tie
+
+is-job-requires : tie.Need-is-job-requires
+is-job-requires c κs = search needs
+
+same-length : tie.Need-same-length
+same-length c = search needs
+
+returns : tie.Need-returns
+returns c =
+    let t = c .before .is-job in
+    let a = c .before .before .before .before .before .args in
+    run-malformed (a .job .now) (a .image .now) (a .done .now) (a .budget)
+    (holds-none (a .job .now) (t .result) (t .ensures) (c .if1 .taken))
+
+run-requires : tie.Need-run-requires
+run-requires c κs =
+    let at-if1 = c .before .before in
+    let t = at-if1 .before .is-job in
+    let a = at-if1 .before .before .before .before .before .args in
+    holds-one (a .job .now) (t .result) (t .ensures) (at-if1 .if1 .left)
+
+enum-known-did : tie.Need-enum-known-did
+enum-known-did c = search needs
+
+enum-known-did-2 : tie.Need-enum-known-did-2
+enum-known-did-2 c = search needs
+
+same-length-2 : tie.Need-same-length-2
+same-length-2 c = search needs
+
+same-length-3 : tie.Need-same-length-3
+same-length-3 c = search needs
+
+returns-2 : tie.Need-returns-2
+returns-2 c =
+    let at-did = c .before in
+    let at-run = at-did .before .before .before .before .before .before in
+    let at-if1 = at-run .before .before .before in
+    let t = at-if1 .before .is-job in
+    let a = at-if1 .before .before .before .before .before .args in
+    let ran = at-run .run in
+    run-refused (a .job .now) (a .image .now) (ran .last .0) (ran .last .1 .0) (a .budget) (at-did .did .given .0 .0)
+    (a .done .now) (job-held (a .job .now) (t .result) (t .ensures) (at-if1 .if1 .left)) (ran .result)
+    (at-did .did .given .1) (ran .ensures)
+
+same-length-4 : tie.Need-same-length-4
+same-length-4 c = search needs
+
+same-length-5 : tie.Need-same-length-5
+same-length-5 c = search needs
+
+returns-3 : tie.Need-returns-3
+returns-3 c =
+    let at-did = c .before in
+    let at-run = at-did .before .before .before .before .before .before in
+    let at-if1 = at-run .before .before .before in
+    let t = at-if1 .before .is-job in
+    let a = at-if1 .before .before .before .before .before .args in
+    let ran = at-run .run in
+    run-went (a .job .now) (a .image .now) (ran .last .0) (ran .last .1 .0) (a .budget) (at-did .did2 .given .0 .0)
+    (a .done .now) (job-held (a .job .now) (t .result) (t .ensures) (at-if1 .if1 .left)) (ran .result)
+    (at-did .did2 .given .1) (ran .ensures)
+
+pub delunkpawi-run-spec : {M : Type 1} → statement M
+delunkpawi-run-spec =
+    tie.close
+    (tie.spec
+    is-job-requires
+    same-length
+    returns
+    run-requires
+    enum-known-did
+    enum-known-did-2
+    same-length-2
+    same-length-3
+    returns-2
+    same-length-4
+    same-length-5
+    returns-3)

@@ -1,0 +1,38 @@
+-- `delunkpawi_enable` starts enable into a buffer. Assumes nothing.
+use lib.ListN.{length}
+use borrow.Author.Needs.{needs}
+use Rattle.rules.specs.Numbers.{setting}
+use Rattle.rules.specs.Commands.{start, enable}
+use Rattle.linked.proofs.Beginning.{other-length, begun-right}
+use Rattle.linked.proofs.starts.delunkpawi_enable.Statement.{statement}
+use Rattle.linked.proofs.starts.delunkpawi_enable.Tie as tie
+
+returns : tie.Need-returns
+returns c =
+    let a = c .before .before .before .args in
+    other-length (a .job .now) (length (a .image .now)) (a .granule)
+    (start (setting (a .granule) (a .spt0) (a .spt1)) (a .image .now) (enable (a .slot))) (c .if1 .taken)
+
+start-enable-requires : tie.Need-start-enable-requires
+start-enable-requires c κs = search needs
+
+hand-over-requires : tie.Need-hand-over-requires
+hand-over-requires c κs = search needs
+
+same-length : tie.Need-same-length
+same-length c = search needs
+
+returns-2 : tie.Need-returns-2
+returns-2 c =
+    let at-hand-over = c .before .before in
+    let at-start = at-hand-over .before .before in
+    let at-if1 = at-start .before in
+    let a = c .before .before .before .before .before .before .before .before .args in
+    begun-right (a .job .now) (length (a .image .now)) (a .granule)
+    (start (setting (a .granule) (a .spt0) (a .spt1)) (a .image .now) (enable (a .slot)))
+    (at-start .start-enable .result) (at-hand-over .hand-over .result) (at-hand-over .hand-over .last .1 .0)
+    (at-if1 .if1 .left) (at-start .start-enable .ensures) (at-hand-over .hand-over .ensures)
+
+pub delunkpawi-enable-spec : {M : Type 1} → statement M
+delunkpawi-enable-spec =
+    tie.close (tie.spec returns start-enable-requires hand-over-requires same-length returns-2)

@@ -1,0 +1,38 @@
+-- `delunkpawi_rename` starts rename into a buffer. Assumes nothing.
+use lib.ListN.{length}
+use borrow.Author.Needs.{needs}
+use Rattle.rules.specs.Numbers.{setting}
+use Rattle.rules.specs.Commands.{start, rename}
+use Rattle.linked.proofs.Beginning.{other-length, begun-right}
+use Rattle.linked.proofs.starts.delunkpawi_rename.Statement.{statement}
+use Rattle.linked.proofs.starts.delunkpawi_rename.Tie as tie
+
+returns : tie.Need-returns
+returns c =
+    let a = c .before .before .before .before .args in
+    other-length (a .job .now) (length (a .image .now)) (a .granule)
+    (start (setting (a .granule) (a .spt0) (a .spt1)) (a .image .now) (rename (a .slot) (a .name .now))) (c .if1 .taken)
+
+start-rename-requires : tie.Need-start-rename-requires
+start-rename-requires c κs = search needs
+
+hand-over-requires : tie.Need-hand-over-requires
+hand-over-requires c κs = search needs
+
+same-length : tie.Need-same-length
+same-length c = search needs
+
+returns-2 : tie.Need-returns-2
+returns-2 c =
+    let at-hand-over = c .before .before in
+    let at-start = at-hand-over .before .before in
+    let at-if1 = at-start .before in
+    let a = c .before .before .before .before .before .before .before .before .before .args in
+    begun-right (a .job .now) (length (a .image .now)) (a .granule)
+    (start (setting (a .granule) (a .spt0) (a .spt1)) (a .image .now) (rename (a .slot) (a .name .now)))
+    (at-start .start-rename .result) (at-hand-over .hand-over .result) (at-hand-over .hand-over .last .1 .0)
+    (at-if1 .if1 .left) (at-start .start-rename .ensures) (at-hand-over .hand-over .ensures)
+
+pub delunkpawi-rename-spec : {M : Type 1} → statement M
+delunkpawi-rename-spec =
+    tie.close (tie.spec returns start-rename-requires hand-over-requires same-length returns-2)

@@ -1,0 +1,136 @@
+// A flash read: its boot order, its slots, what is known of one.
+use reading::Counted;
+use reading::Known;
+use reading::Listed;
+use rules::SlotNo;
+ghost use mathlib.Core.Path.{_≡_};
+ghost use lib.ListN.{length};
+ghost use Rattle.rules.specs.Numbers.{setting};
+ghost use Rattle.rules.specs.Readers.{order-list, slot-count, slot-facts};
+ghost use Rattle.linked.specs.Answered.{number, kept, Written, name-answer};
+
+// The boot order's slot numbers into the front of the row, and how many there are.
+#[no_mangle]
+pub extern "C" fn delunkpawi_order(
+    image: &[u8],
+    granule: usize,
+    spt0: usize,
+    spt1: usize,
+    row: &mut [u32],
+    count: &mut usize,
+) -> u8
+    ensures { λ r. ⌜
+        Written (order-list (setting granule spt0 spt1) (now (image .entry)) (length (now (row .entry)))) r
+        (now (row .entry)) (now (row .exit)) (now (count .entry)) (now (count .exit))
+        ⌝ }
+{
+    let listed = reading::order_list(image, granule, spt0, spt1, row);
+    match listed {
+        Listed::Refused(no) => no,
+        Listed::Count(n) => {
+            *count = n;
+            0
+        }
+    }
+}
+
+// How many application slots there are.
+#[no_mangle]
+pub extern "C" fn delunkpawi_slot_count(
+    image: &[u8],
+    granule: usize,
+    spt0: usize,
+    spt1: usize,
+    count: &mut usize,
+) -> u8
+    ensures { λ r. ⌜
+        (r ≡ number (slot-count (setting granule spt0 spt1) (now (image .entry))))
+        × (now (count .exit)
+        ≡ kept (λ n. n) (slot-count (setting granule spt0 spt1) (now (image .entry))) (now (count .entry)))
+        ⌝ }
+{
+    let counted = reading::slot_count(image, granule, spt0, spt1);
+    match counted {
+        Counted::Refused(no) => no,
+        Counted::Slots(n) => {
+            *count = n;
+            0
+        }
+    }
+}
+
+// The entry number, start, length and flags of a slot.
+#[no_mangle]
+pub extern "C" fn delunkpawi_slot_facts(
+    image: &[u8],
+    granule: usize,
+    spt0: usize,
+    spt1: usize,
+    slot: u32,
+    entry: &mut usize,
+    start: &mut u64,
+    size: &mut u64,
+    flags: &mut u64,
+) -> u8
+    ensures { λ r. ⌜ r ≡ number (slot-facts (setting granule spt0 spt1) (now (image .entry)) slot) ⌝ }
+    ensures { λ _. ⌜
+        now (entry .exit)
+        ≡ kept (λ f. f .entry .0) (slot-facts (setting granule spt0 spt1) (now (image .entry)) slot) (now (entry .entry))
+        ⌝ }
+    ensures { λ _. ⌜
+        now (start .exit)
+        ≡ kept (λ f. f .start) (slot-facts (setting granule spt0 spt1) (now (image .entry)) slot) (now (start .entry))
+        ⌝ }
+    ensures { λ _. ⌜
+        now (size .exit)
+        ≡ kept (λ f. f .size) (slot-facts (setting granule spt0 spt1) (now (image .entry)) slot) (now (size .entry))
+        ⌝ }
+    ensures { λ _. ⌜
+        now (flags .exit)
+        ≡ kept (λ f. f .flags) (slot-facts (setting granule spt0 spt1) (now (image .entry)) slot) (now (flags .entry))
+        ⌝ }
+{
+    let known = reading::slot_facts(image, granule, spt0, spt1, SlotNo(slot));
+    match known {
+        Known::Refused(no) => no,
+        Known::Is(f) => {
+            let e = f.entry;
+            *entry = e.0;
+            *start = f.start;
+            *size = f.size;
+            *flags = f.flags;
+            0
+        }
+    }
+}
+
+// The name of a slot up to its zero into the front of the lent bytes, and its length; 13 where they are too few.
+#[no_mangle]
+pub extern "C" fn delunkpawi_slot_name(
+    image: &[u8],
+    granule: usize,
+    spt0: usize,
+    spt1: usize,
+    slot: u32,
+    name: &mut [u8],
+    count: &mut usize,
+) -> u8
+    ensures { λ r. ⌜
+        Written (name-answer (setting granule spt0 spt1) (now (image .entry)) slot (length (now (name .entry)))) r
+        (now (name .entry)) (now (name .exit)) (now (count .entry)) (now (count .exit))
+        ⌝ }
+{
+    let known = reading::slot_facts(image, granule, spt0, spt1, SlotNo(slot));
+    match known {
+        Known::Refused(no) => no,
+        Known::Is(_) => {
+            let found = reading::slot_name(image, granule, spt0, spt1, SlotNo(slot));
+            if name.len() < found.len() {
+                return 13;
+            }
+            text::put_bytes(name, 0, found);
+            *count = found.len();
+            0
+        }
+    }
+}

@@ -1,0 +1,80 @@
+// A job run, and what remains of it.
+use super::steps;
+use jobs::Did;
+ghost use mathlib.Core.Path.{_≡_};
+ghost use Rattle.jobs.specs.Jobs.{steps-left, next-of};
+ghost use Rattle.job_bytes.specs.Form.{decoded};
+ghost use Rattle.linked.specs.Answered.{number, kept};
+ghost use Rattle.linked.specs.Ran.{lent, running, ran-as};
+ghost use Rattle.linked.specs.StepNumbers.{step-kind, step-address, step-byte};
+
+// Does as many steps as the budget says, or all that remain, and tells how many.
+#[no_mangle]
+pub extern "C" fn delunkpawi_run(
+    job: &mut [u8],
+    image: &mut [u8],
+    budget: usize,
+    done: &mut usize,
+) -> u8
+    ensures { λ r. ⌜
+        ran-as r budget (lent (now (job .entry)) (now (image .entry)) (now (done .entry)))
+        (lent (now (job .exit)) (now (image .exit)) (now (done .exit)))
+        (running (now (job .entry)) (now (image .entry)))
+        ⌝ }
+{
+    if !job_bytes::held::is_job(job) {
+        return 90;
+    }
+    let did = job_bytes::held::run(job, image, budget);
+    match did {
+        Did::Refused(number) => number,
+        Did::Steps(n) => {
+            *done = n;
+            0
+        }
+    }
+}
+
+// How many steps remain.
+#[no_mangle]
+pub extern "C" fn delunkpawi_remaining(job: &[u8], count: &mut usize) -> u8
+    ensures { λ r. ⌜
+        (r ≡ number (decoded (now (job .entry))))
+        × (now (count .exit) ≡ kept steps-left (decoded (now (job .entry))) (now (count .entry)))
+        ⌝ }
+{
+    if !job_bytes::held::is_job(job) {
+        return 90;
+    }
+    *count = job_bytes::held::remaining(job);
+    0
+}
+
+// Which step comes next: 0 for none, 1 for a byte programmed at an address, 2 for a granule erased there.
+#[no_mangle]
+pub extern "C" fn delunkpawi_next_step(
+    job: &[u8],
+    kind: &mut u8,
+    address: &mut usize,
+    byte: &mut u8,
+) -> u8
+    ensures { λ r. ⌜ r ≡ number (decoded (now (job .entry))) ⌝ }
+    ensures { λ _. ⌜
+        now (kind .exit) ≡ kept (λ j. step-kind (next-of j)) (decoded (now (job .entry))) (now (kind .entry))
+        ⌝ }
+    ensures { λ _. ⌜
+        now (address .exit) ≡ kept (λ j. step-address (next-of j)) (decoded (now (job .entry))) (now (address .entry))
+        ⌝ }
+    ensures { λ _. ⌜
+        now (byte .exit) ≡ kept (λ j. step-byte (next-of j)) (decoded (now (job .entry))) (now (byte .entry))
+        ⌝ }
+{
+    if !job_bytes::held::is_job(job) {
+        return 90;
+    }
+    let next = job_bytes::held::next_step(job);
+    *kind = steps::kind_of(next);
+    *address = steps::address_of(next);
+    *byte = steps::byte_of(next);
+    0
+}

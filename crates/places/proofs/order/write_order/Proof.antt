@@ -1,0 +1,121 @@
+-- `places::order::write_order` writes from the free place down until all slots are met. The invariant: the order by the
+-- places above is in front of the row. Assumes nothing.
+use mathlib.Core.Path.{_≡_, refl, _∙_}
+use Prim.Native.Nat.{_-_, _<_}
+use native.Mathlib.Omega.{arith}
+use lib.ListN.{drop, length}
+use borrow.Author.Needs.{needs}
+use Rattle.rules.specs.Table.{rows, slot-starts}
+use Rattle.rules.specs.Pointers.{places, order}
+use Rattle.rules.proofs.PointerHeader.{layout}
+use Rattle.places.proofs.BootOrder.{in-front, order-grows, MetFrom, none-above, none-met, met-down, row-down, places-left, all-met}
+use Rattle.places.proofs.order.write_order.Statement.{statement}
+use Rattle.places.proofs.order.write_order.Tie as tie
+
+abbrev Inv-loop : tie.InvT-loop
+Inv-loop t n last p row₀ total end at₀ k₀ row at k =
+    MetFrom (slot-starts (rows n t)) p k at
+    × ((length row ≡ length row₀) × (row ≡ in-front (order (slot-starts (rows n t)) (drop k (places p))) row₀))
+
+abbrev μ-loop : tie.MeasureT-loop
+μ-loop t n last p row₀ total end at₀ k₀ row at k = k
+
+left : (c : tie.In-loop Inv-loop μ-loop) → 0 < c .before .loop .k
+left c = places-left (c .before .loop .k) _ (c .loop-test .taken)
+
+slot-total-requires : tie.Need-slot-total-requires Inv-loop μ-loop
+slot-total-requires c κs = search needs
+
+free-place-requires : tie.Need-free-place-requires Inv-loop μ-loop
+free-place-requires c κs = search needs
+
+loop-holds : tie.Need-loop-holds Inv-loop μ-loop
+loop-holds c =
+    let a = c .before .before .before .before .before .args in
+    let starts = slot-starts (rows (a .n) (a .t .now)) in
+    let end = c .free-place .result in
+    let free = c .free-place .ensures .1 in
+    (none-met starts (a .p .now) end free, (refl, rw (none-above starts (a .p .now) end free)))
+
+sub-k : tie.Need-sub-k Inv-loop μ-loop
+sub-k c = left c
+
+added-by-requires : tie.Need-added-by-requires Inv-loop μ-loop
+added-by-requires c κs =
+    let at = c .before in
+    let start = at .before .before .before .before .before .before in
+    (start .pre .0 .0, ((start .pre .0 .1, at .before .free-place .ensures .1), omega (arith, left c)))
+
+store-requires : tie.Need-store-requires Inv-loop μ-loop
+store-requires c κs =
+    let added = c .before in
+    let test = added .before in
+    let at = test .before in
+    let start = at .before .before .before .before .before .before in
+    let a = start .args in
+    let starts = slot-starts (rows (a .n) (a .t .now)) in
+    let down = met-down starts (a .p .now) (at .loop .k) (left test) (omega arith) (at .loop .at) (at .loop .inv .0) in
+    let grows = order-grows starts (places (a .p .now)) (at .loop .k - 1) in
+    rw (added .added-by .ensures) (omega (arith, start .pre .1, at .loop .inv .1 .0))
+
+growth-of-requires : tie.Need-growth-of-requires Inv-loop μ-loop
+growth-of-requires c κs = search needs
+
+add-at : tie.Need-add-at Inv-loop μ-loop
+add-at c =
+    let test = c .before .before .before .before .before .before in
+    let start = test .before .before .before .before .before .before .before in
+    omega (arith, left test, layout (start .args .p .now) (start .pre .0 .1 .stands))
+
+loop-less : tie.Need-loop-less Inv-loop μ-loop
+loop-less c = omega (arith, left (c .before .before .before .before .before .before))
+
+loop-again : tie.Need-loop-again Inv-loop μ-loop
+loop-again c =
+    let stored = c .before .before .before in
+    let added = stored .before .before in
+    let test = added .before in
+    let at = test .before in
+    let start = at .before .before .before .before .before .before in
+    let a = start .args in
+    let starts = slot-starts (rows (a .n) (a .t .now)) in (
+      rw (c .growth-of .ensures .0, added .added-by .ensures)
+          (met-down starts (a .p .now) (at .loop .k) (left test) (omega arith) (at .loop .at) (at .loop .inv .0)),
+      (
+        stored .store .kept .1 .1 .0 ∙ at .loop .inv .1 .0,
+        stored .store .ensures
+            ∙ rw (added .added-by .ensures, at .loop .inv .0 .count, at .loop .inv .1 .1)
+            (row-down starts (a .p .now) (at .loop .k) (left test) (omega arith) (a .row .now) (start .pre .1)),
+      ),
+    )
+
+same-length : tie.Need-same-length Inv-loop μ-loop
+same-length c = c .before .loop .inv .1 .0
+
+returns : tie.Need-returns Inv-loop μ-loop
+returns c =
+    let at = c .before in
+    let total = at .before .before .slot-total in
+    let a = at .before .before .before .before .before .before .args in
+    let whole = all-met (rows (a .n) (a .t .now)) (a .p .now) (at .loop .k) (at .loop .at) (total .result)
+    (at .loop .inv .0) (total .ensures .0) (c .loop-test .left) in
+    (rw whole (at .loop .inv .0 .count), rw whole (at .loop .inv .1 .1))
+
+pub write-order-spec : {M : Type 1} → statement M
+write-order-spec =
+    tie.close
+    (tie.spec
+    Inv-loop
+    μ-loop
+    slot-total-requires
+    free-place-requires
+    loop-holds
+    sub-k
+    added-by-requires
+    store-requires
+    growth-of-requires
+    add-at
+    loop-less
+    loop-again
+    same-length
+    returns)

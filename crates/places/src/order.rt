@@ -1,0 +1,73 @@
+// The boot order by a table and a pointer block, without a store of the slots met: a walk from the free place down,
+// above which nothing is added, until all slots are met. A live place is compared with those above it up to the first
+// of its value; of one slot these stretches do not overlap, so that all of them together are at most places times slots.
+use super::Added;
+use rules::PlaceNo;
+use slots::LastSlots;
+ghost use mathlib.Core.Path.{_≡_};
+ghost use mathlib.Core.List.{_++_};
+ghost use Prim.Native.Nat.{_+_, _≤_};
+ghost use lib.ListN.{length, drop};
+ghost use Rattle.rules.specs.Bytes.{block-size};
+ghost use Rattle.walks.specs.Entries.{most-entries};
+ghost use Rattle.slots.specs.Ends.{Ends};
+ghost use Rattle.places.specs.StandingPointers.{StandingPointers};
+ghost use Rattle.places.specs.Added.{growth, stored, order-by-rows};
+
+// How many slots the order has.
+pub fn order_length(t: &[u8], n: usize, last: LastSlots, p: &[u8]) -> usize
+    requires { ⌜ (((length (now t) ≡ block-size) × (n ≤ most-entries)) × Ends (now t) n last) × StandingPointers (now p) ⌝ }
+    ensures { λ r. ⌜ r ≡ length (order-by-rows n (now (t .entry)) (now (p .entry))) ⌝ }
+{
+    let total = slots::slot_total(t, n, last);
+    let end = super::free_place(p);
+    let mut len = 0;
+    let mut k = end;
+    while (0 < k) & (len < total) {
+        k -= 1;
+        len += growth_of(super::added_by(t, n, last, p, end, PlaceNo(k)));
+    }
+    len
+}
+
+// The order into the front of a row that has room for it, and its length.
+pub fn write_order(t: &[u8], n: usize, last: LastSlots, p: &[u8], row: &mut [u32]) -> usize
+    requires { ⌜ ((((length (now t) ≡ block-size) × (n ≤ most-entries)) × Ends (now t) n last) × StandingPointers (now p))
+        × (length (order-by-rows n (now t) (now p)) ≤ length (now row)) ⌝ }
+    ensures count { λ r. ⌜ r ≡ length (order-by-rows n (now (t .entry)) (now (p .entry))) ⌝ }
+    ensures written { λ r. ⌜ now (row .exit) ≡ order-by-rows n (now (t .entry)) (now (p .entry))
+        ++ drop (length (order-by-rows n (now (t .entry)) (now (p .entry)))) (now (row .entry)) ⌝ }
+{
+    let total = slots::slot_total(t, n, last);
+    let end = super::free_place(p);
+    let mut at = 0;
+    let mut k = end;
+    while (0 < k) & (at < total) {
+        k -= 1;
+        let added = super::added_by(t, n, last, p, end, PlaceNo(k));
+        store(added, at, row);
+        at += growth_of(added);
+    }
+    at
+}
+
+fn growth_of(added: Added) -> usize
+    ensures { λ r. ⌜ (r ≡ growth added) × (r ≤ 1) ⌝ }
+{
+    match added {
+        Added::Slot(_) => 1,
+        Added::Nothing => 0,
+    }
+}
+
+fn store(added: Added, at: usize, row: &mut [u32])
+    requires { ⌜ at + growth added ≤ length (now row) ⌝ }
+    ensures { λ _. ⌜ now (row .exit) ≡ stored added at (now (row .entry)) ⌝ }
+{
+    match added {
+        Added::Slot(s) => {
+            row[at] = s.0;
+        }
+        Added::Nothing => {}
+    }
+}

@@ -1,0 +1,31 @@
+-- `reading::order::has_room` is the test of refusal 13: room for all slots is room for the order. Assumes nothing.
+use mathlib.Core.Path.{sym}
+use native.Mathlib.Omega.{arith}
+use lib.ListN.{length}
+use borrow.Author.Tests.{le-leb}
+use Rattle.rules.specs.Table.{rows}
+use Rattle.rules.specs.Pointers.{places}
+use Rattle.places.specs.Added.{order-by-rows}
+use Rattle.places.proofs.BootOrder.{order-fits}
+use borrow.Author.Needs.{needs}
+use Rattle.reading.proofs.order.has_room.Statement.{statement}
+use Rattle.reading.proofs.order.has_room.Tie as tie
+
+slot-total-requires : tie.Need-slot-total-requires
+slot-total-requires c κs = search needs
+
+returns : tie.Need-returns
+returns c =
+    let total = c .before .slot-total in
+    let a = c .before .before .before .before .args in
+    let most = order-fits (rows (a .n) (a .t .now)) (places (a .p .now)) in
+    sym (le-leb (length (order-by-rows (a .n) (a .t .now) (a .p .now))) (a .room) (omega (arith, total .ensures .0)))
+
+order-length-requires : tie.Need-order-length-requires
+order-length-requires c κs = search needs
+
+returns-2 : tie.Need-returns-2
+returns-2 c = rw (c .order-length .ensures)
+
+pub has-room-spec : {M : Type 1} → statement M
+has-room-spec = tie.close (tie.spec slot-total-requires returns order-length-requires returns-2)

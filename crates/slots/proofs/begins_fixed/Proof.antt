@@ -1,0 +1,23 @@
+-- `slots::begins_fixed` is the test of the first byte, 0 where there is none. Assumes nothing.
+use native.Mathlib.Omega.{arith}
+use lib.ListN.{List·getD-eq-default}
+use Rattle.rules.specs.Lists.{member}
+use Rattle.walks.proofs.Joined.{or-assoc, or-with-false}
+use Rattle.slots.specs.Initials.{initials}
+use borrow.Author.Needs.{needs}
+use Rattle.slots.proofs.begins_fixed.Statement.{statement}
+use Rattle.slots.proofs.begins_fixed.Tie as tie
+
+returns : tie.Need-returns
+unfolding member initials
+returns c = rw (List·getD-eq-default (c .before .args .name .now) 0 {n = 0} (omega arith))
+
+shared-slice-read-first : tie.Need-shared-slice-read-first
+shared-slice-read-first c = search needs
+
+returns-2 : tie.Need-returns-2
+unfolding member initials
+returns-2 c = simp (or-assoc, or-with-false)
+
+pub begins-fixed-spec : {M : Type 1} → statement M
+begins-fixed-spec = tie.close (tie.spec returns shared-slice-read-first returns-2)
