@@ -7,8 +7,7 @@ use Prim.Native.Nat.{ℕ, suc, _+_, _-_, _*_, min}
 use lib.Dec.{leb}
 use lib.ListN.{length}
 use Rattle.rules.specs.Bytes.{block-size}
-use Rattle.jobs.specs.Jobs.{meant}
-pub use Rattle.jobs.specs.Jobs.{place-room}
+use Rattle.jobs.specs.Jobs.{place-room, meant}
 use Rattle.jobs.specs.declared.Kind.{Kind}
 use Rattle.jobs.specs.declared.Kind.the-variants.{Nothing, Rewrite, Places}
 use Rattle.jobs.specs.declared.Plan.{Plan}
