@@ -172,10 +172,13 @@ class Cursor:
                 self.at += 1
 
     def attributes(self) -> None:
+        """Passes `#[no_mangle]` and the like. One that changes what is compiled is refused."""
         while self.text() == "#":
             self.at += 1
             self.taken("!")
-            self.group()
+            for token in self.group():
+                if token.text in ("cfg", "cfg_attr", "path"):
+                    raise self.fail(f"the attribute '{token.text}' is not known")
 
     def path(self) -> tuple[str, ...]:
         parts = [self.take()]

@@ -41,8 +41,7 @@ class Source:
     """The crates of a repository and of the kit, read as they are asked for."""
 
     def __init__(self, root: Path) -> None:
-        self.own = root / "crates"
-        self.folders = [self.own] + kit_folder()
+        self.folders = [root / "crates"] + kit_folder()
         self.crates: dict[str, Optional[Module]] = {}
 
     def crate(self, name: str) -> Optional[Module]:
@@ -52,8 +51,9 @@ class Source:
         return self.crates[name]
 
     def methods(self, name: str, owner: str = "") -> list[Function]:
-        """Every method of that name in the repository, of one type or of any."""
-        crates = [self.crate(folder.name) for folder in sorted(self.own.iterdir())]
+        """Every method of that name, of one type or of any."""
+        names = sorted(crate.name for folder in self.folders for crate in folder.iterdir())
+        crates = [self.crate(crate) for crate in names]
         modules = [module for crate in crates if crate for module in crate.all()]
         methods = [method for module in modules for method in module.methods]
         return [method for method in methods if method.name == name and owner in ("", method.owner)]

@@ -277,6 +277,7 @@ static void try_spoilt(int slots) {
 
 int main(void) {
     static const int sizes[] = {3, 40, SLOTS_MAX};
+    setvbuf(stdout, NULL, _IOLBF, 0); /* a call that passes the stack ends the program: what came before is seen */
     make_stack();
     try_stack();
     printf("slots  table        pointers, or what is wrong          answer        deepest\n");
