@@ -11,6 +11,7 @@ from rattle_source import Const, Cursor, Declared, Function, Module, Token, Type
 
 SCALARS = {"bool": 1, "u8": 1, "i8": 1, "u16": 2, "i16": 2, "u32": 4, "i32": 4, "f32": 4}
 SCALARS |= {"u64": 8, "i64": 8, "f64": 8, "usize": 8, "isize": 8}
+POINTER_SIZE = 8
 REFERENCE_SIZE = 16  # a pointer and a length
 TAG_SIZE = 8
 
@@ -35,6 +36,10 @@ def kit_folder() -> list[Path]:
     """The libraries of the Rattle kit, where `rt` is on the PATH."""
     command = shutil.which("rt")
     return [Path(command).resolve().parent.parent / "libs"] if command else []
+
+
+def round_up(size: int, unit: int) -> int:
+    return -(-size // unit) * unit
 
 
 class Source:
@@ -152,7 +157,7 @@ class Source:
         return found
 
     def size(self, kind: Type, module: Module, owner: str = "", local: Optional[dict[str, Const]] = None) -> int:
-        """The bytes of a type: of a struct the sum of its fields, of an enum a tag and its largest variant."""
+        """The bytes of a type. A struct has its fields in their order, an enum a tag and its largest variant."""
         if kind.kind == "lent":
             return REFERENCE_SIZE
         if kind.kind == "array":
@@ -166,11 +171,28 @@ class Source:
         return self.declared_size(self.declared(kind, module, owner))
 
     def declared_size(self, declared: Declared) -> int:
-        sizes = [
-            sum(self.size(part, declared.module, declared.name) for part in parts)
-            for parts in declared.variants.values()
-        ]
-        return max(sizes, default=0) + (TAG_SIZE if declared.is_enum else 0)
+        bound = self.declared_alignment(declared)
+        sizes = [TAG_SIZE if declared.is_enum else 0]
+        for parts in declared.variants.values():
+            end = sizes[0]
+            for part in parts:
+                end = round_up(end, self.alignment(part, declared.module, declared.name))
+                end += self.size(part, declared.module, declared.name)
+            sizes.append(round_up(end, bound))
+        return max(sizes)
+
+    def alignment(self, kind: Type, module: Module, owner: str = "") -> int:
+        """The number of which an address of the type is a multiple."""
+        if kind.kind in ("array", "tuple"):
+            return max((self.alignment(part, module, owner) for part in kind.parts), default=1)
+        if kind.kind == "name" and kind.path[0] not in SCALARS:
+            return self.declared_alignment(self.declared(kind, module, owner))
+        return SCALARS[kind.path[0]] if kind.kind == "name" else POINTER_SIZE
+
+    def declared_alignment(self, declared: Declared) -> int:
+        parts = [part for parts in declared.variants.values() for part in parts]
+        least = TAG_SIZE if declared.is_enum else 1
+        return max([least] + [self.alignment(part, declared.module, declared.name) for part in parts])
 
     def held(
         self, kind: Type, module: Module, owner: str = "", local: Optional[dict[str, Const]] = None, where: str = ""
