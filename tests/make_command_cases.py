@@ -178,7 +178,8 @@ def in_order(runs):
 
 
 def wiped_choices(granule):
-    return [0, 1, 2, 3, 4, 4095, 4096, granule]
+    """After how many bytes an erase is cut: every number on the smallest granule, eight of them on a larger one."""
+    return list(range(granule + 1)) if granule == 4096 else [0, 1, 2, 3, 4, 4095, 4096, granule]
 
 
 def reading_or_none(image, setting):
@@ -215,11 +216,13 @@ def tried(image, setting, command):
 def power_cuts():
     names = ["quarry", "highest_506", "highest_507", "moved", "moved_three"]
     names += ["first_copies_damaged", "second_copies_damaged", "wide"]
-    commands = [(word, slot) for slot in range(3) for word in ("enable", "disable")]
-    commands += [("rename", 0, NEW_NAME), ("repair",)]
+    commands = []
+    for slot in range(3):
+        commands += [("enable", slot), ("disable", slot), ("rename", slot, NEW_NAME)]
+    commands.append(("repair",))
     for name in names:
         setting = WIDE if name == "wide" else LISTING
-        yield f"{name}.img"
+        yield f"{name}.img, each erase cut {len(wiped_choices(setting.granule))} times"
         for command in commands:
             yield tried(IMAGES[name], setting, command)
 

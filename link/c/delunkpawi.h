@@ -22,8 +22,9 @@
  *   10  another entry has the new name
  *   11  the job is finished
  *   12  another image length than at the start, or a step outside the image
- *   13  the lent row, or the bytes lent for a name, are too few
+ *   13  the lent row is shorter than the boot order
  *   90  the job's buffer has another length than DELUNKPAWI_JOB_SIZE, or holds no job
+ *   91  the bytes lent for a name are too few
  *
  * docs/REFUSALS.md says what to do about each.
  */
@@ -83,7 +84,15 @@ uint8_t delunkpawi_rename(const uint8_t *image, size_t image_length, size_t gran
 uint8_t delunkpawi_repair(const uint8_t *image, size_t image_length, size_t granule, size_t spt0, size_t spt1,
                           uint8_t *job, size_t job_length);
 
-/* ---- Running it. */
+/* ---- Running it.
+ *
+ * A run of many steps is for an image in memory. What is proved of a run is what image, job and count hold when it
+ * returns: nothing is said of the moments between. On a device a driver goes step by step: it asks delunkpawi_next_step,
+ * carries that one step out, and counts it with delunkpawi_advance, until no step is left.
+ *
+ * A job's buffer may be stored and passed on between steps. But a job that was cut, by a power failure or by a step that
+ * failed, is dropped and never resumed: list the boot order, start a repair, run it to its end, and give the command
+ * again if the order is still the old one. */
 
 /* Does so many steps, or all that remain, on the image, and tells how many it did. The job is left advanced by them. */
 uint8_t delunkpawi_run(uint8_t *job, size_t job_length, uint8_t *image, size_t image_length, size_t budget,
@@ -95,6 +104,10 @@ uint8_t delunkpawi_remaining(const uint8_t *job, size_t job_length, size_t *coun
 /* Which step comes next, for a driver that does the steps on a device itself: kind 0 for none, 1 for `byte` programmed
  * (new byte = old AND given) at `address`, 2 for the granule at `address` erased. */
 uint8_t delunkpawi_next_step(const uint8_t *job, size_t job_length, uint8_t *kind, size_t *address, uint8_t *byte);
+
+/* Counts so many steps that a driver carried out itself, in their order, or all that remain; tells how many it counted.
+ * The job is left advanced by them, as by a run; no image is touched. Refused 90, then 11. */
+uint8_t delunkpawi_advance(uint8_t *job, size_t job_length, size_t steps, size_t *count);
 
 #ifdef __cplusplus
 }

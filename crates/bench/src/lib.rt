@@ -5,6 +5,11 @@ use commands::Begun;
 use commands::Outcome;
 use jobs::Did;
 use jobs::Job;
+ghost use mathlib.Core.Path.{_≡_};
+ghost use Rattle.rules.specs.Commands.{start};
+ghost use Rattle.commands.specs.Begins.{start-result};
+ghost use Rattle.book.specs.Kept.{setting-of, command-of};
+ghost use Rattle.bench.specs.Finished.{finished, left-finished, done-by, left-by, done-begun, left-begun, wiped-inside};
 
 // How many steps were done, or the number of a refusal.
 pub enum Done {
@@ -12,7 +17,11 @@ pub enum Done {
     Refused(u8),
 }
 
-pub fn begin(image: &[u8], s: Setting, command: Command) -> Begun {
+pub fn begin(image: &[u8], s: Setting, command: Command) -> Begun
+    ensures { λ r. ⌜
+        r ≡ start-result (setting-of s) (now (image .entry)) (command-of command)
+        ⌝ }
+{
     match command {
         Command::Enable(slot) => commands::start_enable(image, s.granule, s.spt0, s.spt1, slot),
         Command::Disable(slot) => commands::start_disable(image, s.granule, s.spt0, s.spt1, slot),
@@ -24,12 +33,16 @@ pub fn begin(image: &[u8], s: Setting, command: Command) -> Begun {
     }
 }
 
-// Runs what remains of a job, at most so many steps.
-pub fn run_job(image: &mut [u8], job: Job, most: usize) -> Done {
-    if jobs::remaining(job) == 0 {
+// Runs a job of which so many steps remain: all of them in one run, and none where none remains.
+fn run_job(image: &mut [u8], job: Job, left: usize) -> Done
+    ensures { λ r. ⌜
+        (r ≡ done-by left job (now (image .entry))) × (now (image .exit) ≡ left-by left job (now (image .entry)))
+        ⌝ }
+{
+    if left == 0 {
         return Done::Steps(0);
     }
-    let ran = jobs::run(job, image, most);
+    let ran = jobs::run(job, image, left);
     let did = ran.did;
     match did {
         Did::Steps(n) => Done::Steps(n),
@@ -38,7 +51,11 @@ pub fn run_job(image: &mut [u8], job: Job, most: usize) -> Done {
 }
 
 // All steps of a start.
-pub fn run_begun(image: &mut [u8], begun: Begun) -> Done {
+pub fn run_begun(image: &mut [u8], begun: Begun) -> Done
+    ensures { λ r. ⌜
+        (r ≡ done-begun begun (now (image .entry))) × (now (image .exit) ≡ left-begun begun (now (image .entry)))
+        ⌝ }
+{
     let answer = begun.answer;
     let job = begun.job;
     match answer {
@@ -48,21 +65,31 @@ pub fn run_begun(image: &mut [u8], begun: Begun) -> Done {
 }
 
 // Starts a command and does all its steps.
-pub fn finish(image: &mut [u8], s: Setting, command: Command) -> Done {
+pub fn finish(image: &mut [u8], s: Setting, command: Command) -> Done
+    ensures { λ r. ⌜
+        (r ≡ finished (start (setting-of s) (now (image .entry)) (command-of command)))
+        × (now (image .exit)
+        ≡ left-finished (s .granule) (now (image .entry))
+        (start (setting-of s) (now (image .entry)) (command-of command)))
+        ⌝ }
+{
     run_begun(image, begin(image, s, command))
 }
 
-// So many bytes 0xFF from an address on, as far as the image goes.
-pub fn wipe(image: &mut [u8], at: usize, n: usize) {
+// So many bytes 0xFF from an address on: an erase, whole or half done. Nothing where they pass the image's end.
+pub fn wipe(image: &mut [u8], at: usize, n: usize)
+    ensures { λ r. ⌜ now (image .exit) ≡ wiped-inside at n (now (image .entry)) ⌝ }
+{
+    if image.len() < n {
+        return;
+    }
+    if image.len() - n < at {
+        return;
+    }
     let mut end = at;
     let mut i = 0;
     while i < n {
         end = text::put_byte(image, end, 0xFF);
         i += 1;
     }
-}
-
-// One image copied over another of the same length.
-pub fn copy(from: &[u8], to: &mut [u8]) {
-    text::put_bytes(to, 0, from);
 }

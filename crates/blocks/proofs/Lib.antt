@@ -1,6 +1,7 @@
 pub mod Putting
 pub mod OrderPacked
-pub mod Walking
 pub mod Noting
+pub mod Walking
 pub mod Naming
 pub mod JobSteps
+pub mod Examples

@@ -1,62 +1,77 @@
--- Place numbers noted in a row of bytes, two for each. Assumes nothing.
-use mathlib.Core.Path.{_≡_, refl, sym, _∙_}
-use mathlib.Core.List.{List, [], _∷_, _++_}
-use Prim.Native.Nat.{ℕ, zero, suc, _+_, _*_, _/_, _%_, _≤_, _<_}
-use native.Mathlib.Nat.{div-add-mod'}
+-- Place numbers noted one after another, two bytes for each, and read back. Assumes nothing.
+use mathlib.Core.Path.{_≡_, refl, ap₂, _∙_}
+use mathlib.Core.List.{List, [], _∷_, _++_, append-assoc, append-nil}
+use Prim.Native.Nat.{ℕ, suc, _+_, _*_, _-_, _/_, _%_, _≤_, _<_}
 use native.Mathlib.Omega.{arith}
-use lib.ListN.{length, getD, drop, set, length-set}
-use lib.Seq.{getD-set-same, getD-set-other, ext-getD}
-use Rattle.rules.specs.Bytes.{field}
-use Rattle.walks.proofs.Fields.{field-2, field-drop}
-use Rattle.jobs.specs.Jobs.{numbers-from}
-use Rattle.jobs.proofs.PlaceNumbers.{length-numbers, number-at}
+use lib.ListN.{length, replicate, length-append, length-replicate}
+use lib.Seq.{append-snoc, set-at}
+use Rattle.rules.specs.Bytes.{little-endian, bytes-of, field}
+use Rattle.rules.proofs.Words.{length-bytes-of}
+use Rattle.jobs.specs.Jobs.{place-room, numbers-from}
+use Rattle.blocks.specs.Made.{number-bytes, places-noted}
 use Rattle.blocks.specs.Walked.{noted}
 
-numbers-last : (n : ℕ) (bs : List ℕ) → numbers-from (n + 1) bs ≡ numbers-from n bs ++ (field (2 * n) 2 bs ∷ [])
-unfolding numbers-from
-numbers-last zero bs = refl
-numbers-last (suc n) bs =
-    let e : suc n + 1 ≡ suc (n + 1) = omega arith in
-    let f : 2 + 2 * n ≡ 2 * suc n = omega arith in
-    rw (e, numbers-last n (drop 2 bs), field-drop (2 * n) 2 2 bs, f)
+-- ---- one number more
 
-module _ (i k : ℕ) (bs : List ℕ) (room : 2 * i + 2 ≤ length bs) where
-  length-noted : length (noted i k bs) ≡ length bs
-  unfolding noted
-  length-noted = simp length-set
+length-number-bytes : (ks : List ℕ) → length (number-bytes ks) ≡ 2 * length ks
+unfolding number-bytes
+length-number-bytes [] = refl
+length-number-bytes (k ∷ ks) =
+    length-append (bytes-of 2 k) (number-bytes ks)
+    ∙ omega (arith, length-bytes-of 2 k, length-number-bytes ks)
 
-  byte-before : (j : ℕ) → j < 2 * i → getD (noted i k bs) j 0 ≡ getD bs j 0
-  unfolding noted
-  byte-before j h =
-      getD-set-other (set bs (2 * i) (k % 256)) (2 * i + 1) j (k / 256) 0 (λ e. omega arith)
-      ∙ getD-set-other bs (2 * i) j (k % 256) 0 (λ e. omega arith)
+number-bytes-last : (ks : List ℕ) (k : ℕ) → number-bytes (ks ++ (k ∷ [])) ≡ number-bytes ks ++ bytes-of 2 k
+unfolding number-bytes
+number-bytes-last [] k = append-nil (bytes-of 2 k)
+number-bytes-last (j ∷ ks) k = rw (number-bytes-last ks k, append-assoc)
 
-  low-byte : getD (noted i k bs) (2 * i) 0 ≡ k % 256
-  unfolding noted
-  low-byte =
-      getD-set-other (set bs (2 * i) (k % 256)) (2 * i + 1) (2 * i) (k / 256) 0 (λ e. omega arith)
-      ∙ getD-set-same bs (2 * i) (k % 256) 0 (omega arith)
+module _ (ks : List ℕ) (k : ℕ) (room : length ks < place-room) (small : k < place-room) where
+  one-more : noted (length ks) k (places-noted ks .places) ≡ places-noted (ks ++ (k ∷ [])) .places
+  unfolding noted places-noted bytes-of
+  one-more =
+      let front = number-bytes ks in
+      let rest : List ℕ = replicate (2 * (place-room - length (ks ++ (k ∷ [])))) 0 in
+      let two : 2 * (place-room - length ks) ≡ suc (suc (2 * (place-room - length (ks ++ (k ∷ []))))) = omega
+      (arith, length-append ks (k ∷ [])) in
+      let high : k / 256 % 256 ≡ k / 256 = omega arith in
+      rw (
+        two,
+        set-at front 0 (0 ∷ rest) (k % 256) (2 * length ks) (length-number-bytes ks),
+        ← append-snoc front (k % 256) (0 ∷ rest),
+        set-at (front ++ (k % 256 ∷ [])) 0 rest (k / 256) (2 * length ks + 1) (length-append front (k % 256 ∷ [])
+            ∙ omega (arith, length-number-bytes ks)),
+        number-bytes-last ks k,
+        high,
+      )
+      (simp append-assoc)
 
-  high-byte : getD (noted i k bs) (2 * i + 1) 0 ≡ k / 256
-  unfolding noted
-  high-byte =
-      getD-set-same (set bs (2 * i) (k % 256)) (2 * i + 1) (k / 256) 0 (simp length-set (omega arith))
+  pub noted-after : (met : ℕ) (numbers numbers′ : List ℕ)
+      → met ≡ length ks
+      → numbers ≡ places-noted ks .places
+      → numbers′ ≡ noted met k numbers
+      → numbers′ ≡ places-noted (ks ++ (k ∷ [])) .places
+  noted-after met numbers numbers′ counted same more = more ∙ rw (counted, same) one-more
 
-  noted-number : field (2 * i) 2 (noted i k bs) ≡ k
-  noted-number =
-      field-2 (2 * i) (noted i k bs) (omega (arith, length-noted))
-      ∙ rw (low-byte, high-byte) (omega (arith, div-add-mod' k 256))
+-- the room of the numbers
+pub length-noted : (ks : List ℕ) → length ks ≤ place-room → length (places-noted ks .places) ≡ 2 * place-room
+unfolding places-noted
+length-noted ks h =
+    length-append (number-bytes ks) (replicate (2 * (place-room - length ks)) 0)
+    ∙ omega (arith, length-number-bytes ks, length-replicate {A = ℕ} (2 * (place-room - length ks)) 0)
 
-  numbers-before : numbers-from i (noted i k bs) ≡ numbers-from i bs
-  numbers-before =
-      ext-getD 0 (numbers-from i (noted i k bs)) (numbers-from i bs)
-      (length-numbers i (noted i k bs) ∙ sym (length-numbers i bs))
-      (λ j h.
-      let below : j < i = omega (arith, length-numbers i (noted i k bs)) in
-      number-at i j (noted i k bs) below
-      ∙ field-2 (2 * j) (noted i k bs) (omega (arith, length-noted))
-      ∙ rw (byte-before (2 * j) (omega arith), byte-before (2 * j + 1) (omega arith))
-      (sym (number-at i j bs below ∙ field-2 (2 * j) bs (omega arith))))
+-- ---- read back
 
-  pub noted-more : numbers-from (i + 1) (noted i k bs) ≡ numbers-from i bs ++ (k ∷ [])
-  noted-more = numbers-last i (noted i k bs) ∙ rw (numbers-before, noted-number)
+-- every number of a list is below a bound
+abbrev pub Below : ℕ → List ℕ → Type 0
+Below bound [] = Unit {0}
+Below bound (k ∷ ks) = (k < bound) × Below bound ks
+
+numbers-back : (ks rest : List ℕ) → Below place-room ks → numbers-from (length ks) (number-bytes ks ++ rest) ≡ ks
+unfolding numbers-from number-bytes bytes-of field little-endian
+numbers-back [] rest h = refl
+numbers-back (k ∷ ks) rest (h, hs) =
+    ap₂ {C = List ℕ} (λ j js. j ∷ js) (omega arith) (numbers-back ks rest hs)
+
+pub noted-back : (ks : List ℕ) → Below place-room ks → numbers-from (length ks) (places-noted ks .places) ≡ ks
+unfolding places-noted
+noted-back ks h = numbers-back ks (replicate (2 * (place-room - length ks)) 0) h

@@ -8,12 +8,12 @@ use borrow.Author.Tests.{eq-eqb, ne-eqb}
 use lib.ListN.{length, getD, take, drop, length-map, length-reverse}
 use lib.Seq.{drop-cons, drop-length, take-append-seam}
 use Rattle.rules.specs.Lists.{without}
-use Rattle.rules.specs.Table.{rows, slots, slot-starts}
+use Rattle.rules.specs.Table.{entry-count, entries, slots, slot-starts, starts}
 use Rattle.rules.specs.Pointers.{order}
 use Rattle.rules.specs.Commands.{pointers-of}
 use Rattle.rules.proofs.OnceEach.{Once, once-order, once-first, once-length}
 use Rattle.walks.specs.Entries.{most-entries}
-use Rattle.slots.proofs.Last.{few-slots}
+use Rattle.slots.proofs.RowsOf.{few-slots-counted}
 use Rattle.places.proofs.BootOrder.{order-fits}
 use Rattle.blocks.specs.Walked.{SlotNumbers}
 
@@ -62,30 +62,27 @@ below-at n [] i h l = absurd (not-suc-le-zero l)
 below-at n (x ∷ o) zero (_, b, _) l = b
 below-at n (x ∷ o) (suc i) (_, _, h) l = below-at n o i h (le-of-suc-le-suc l)
 
-module _ (n : ℕ) (t vs : List ℕ) where
-  same-length : length (slot-starts (rows n t)) ≡ length (slots (rows n t))
-  unfolding slot-starts
+module _ (t vs : List ℕ) where
+  same-length : length (starts t) ≡ length (slots (entries t))
+  unfolding starts slot-starts
   same-length = simp length-map
 
-  pub few-in-order : length (order (slot-starts (rows n t)) vs) ≤ n
-  few-in-order = omega (arith, order-fits (rows n t) vs, few-slots n t)
+  pub few-in-order : length (order (starts t) vs) ≤ entry-count t
+  unfolding starts
+  few-in-order = omega (arith, order-fits (entries t) vs, few-slots-counted t)
 
-  pub numbers-of-order : n ≤ most-entries
-      → SlotNumbers (length (slots (rows n t))) (order (slot-starts (rows n t)) vs)
-  numbers-of-order few =
-      let starts = slot-starts (rows n t) in
-      record {
-        few = omega (arith, few-in-order);
-        below = λ i l. rw (← same-length) (below-at (length starts) (order starts vs) i (once-order starts vs) l);
-      }
+  pub numbers-of-order : entry-count t ≤ most-entries → SlotNumbers (length (slots (entries t))) (order (starts t) vs)
+  numbers-of-order few = record {
+    few = omega (arith, few-in-order);
+    below = λ i l. rw (← same-length) (below-at (length (starts t)) (order (starts t) vs) i (once-order (starts t) vs) l);
+  }
 
   -- there is room for a slot in front
-  pub room-for-first : (k : ℕ) → k < length (slots (rows n t)) → length (without k (order (slot-starts (rows n t)) vs)) < n
+  pub room-for-first : (k : ℕ) → k < length (slots (entries t)) → length (without k (order (starts t) vs)) < entry-count t
   room-for-first k there =
-      let starts = slot-starts (rows n t) in
-      let most = once-length (length starts) (k ∷ without k (order starts vs))
-      (once-first (length starts) k (order starts vs) (omega (arith, same-length)) (once-order starts vs)) in
-      omega (arith, most, same-length, few-slots n t)
+      let most = once-length (length (starts t)) (k ∷ without k (order (starts t) vs))
+      (once-first (length (starts t)) k (order (starts t) vs) (omega (arith, same-length)) (once-order (starts t) vs)) in
+      omega (arith, most, same-length, few-slots-counted t)
 
 -- an order at the front of a row
 pub front-of-row : (o row after : List ℕ) (len : ℕ) → len ≡ length o → after ≡ o ++ drop (length o) row

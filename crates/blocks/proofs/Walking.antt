@@ -2,26 +2,29 @@
 -- Assumes nothing.
 use mathlib.Core.Path.{_≡_, refl, sym, ap, _∙_}
 use mathlib.Core.Bool.{Bool, true, false, cond, _||_}
-use mathlib.Core.List.{List, [], _∷_, _++_}
+use mathlib.Core.List.{List, [], _∷_, _++_, append-nil}
 use mathlib.Core.Option.{Option, none, some}
-use Prim.Native.Nat.{ℕ, zero, suc, _+_, _<_}
-use native.Mathlib.Numerals.{add-one}
+use Prim.Native.Nat.{ℕ, zero, suc, _+_, _≤_, _<_}
+use native.Mathlib.Nat.{le-refl, add-zero, zero-add}
 use native.Mathlib.Omega.{arith}
 use lib.Dec.{eqb, ltb}
 use borrow.Author.Tests.{eqb-true, lt-ltb}
-use lib.ListN.{length, getD, drop}
+use lib.ListN.{length, getD, take, drop, take-append-drop}
+use lib.Seq.{length-take-le, take-add}
 use Rattle.rules.specs.Lists.{member, all}
 use Rattle.rules.specs.Pointers.{place-count, places, all-ones, judged, slot-given, gives, add-last, order}
 use Rattle.rules.specs.Commands.{is-first, giving}
 use Rattle.rules.specs.declared.Place.{Place}
 use Rattle.rules.specs.declared.Place.the-variants.{Erased, Live, Dead}
 use Rattle.rules.proofs.Tests.{by-cases, clash, and-true}
-use Rattle.places.specs.StandingPointers.{FreeFrom}
 use Rattle.places.specs.Added.{place-value}
 use Rattle.places.proofs.Values.{place-turn}
+pub use Rattle.places.proofs.Values.{length-places}
+use Rattle.places.proofs.Free.{FreeFrom}
 use Rattle.places.proofs.BootOrder.{live-start, member-last}
 use Rattle.walks.proofs.Joined.{or-with-false}
 use Rattle.blocks.specs.Walked.{is-live}
+use Rattle.blocks.proofs.Noting.{Below}
 
 -- ---- the slot that comes first, from the last place down
 
@@ -90,19 +93,62 @@ none-give starts k i (v ∷ vs) h =
     let (one, more) = and-true (all-ones v) (all all-ones vs) h in
     rw (one, none-give starts k (suc i) vs more)
 
+-- places after others
+giving-append : (starts : List ℕ) (k i : ℕ) (vs ws : List ℕ)
+    → giving starts k i (vs ++ ws) ≡ giving starts k i vs ++ giving starts k (i + length vs) ws
+unfolding giving
+giving-append starts k i [] ws = rw (add-zero i)
+giving-append starts k i (v ∷ vs) ws =
+    let one-more : suc i + length vs ≡ i + suc (length vs) = omega arith in
+    by-cases (gives k (judged starts v))
+    (λ t. rw (t, giving-append starts k (suc i) vs ws, one-more))
+    (λ t. rw (t, giving-append starts k (suc i) vs ws, one-more))
+
+-- no more of them than there are places, and each is the number of one
+pub giving-few : (starts : List ℕ) (k i : ℕ) (vs : List ℕ) → length (giving starts k i vs) ≤ length vs
+unfolding giving
+giving-few starts k i [] = le-refl 0
+giving-few starts k i (v ∷ vs) =
+    by-cases (gives k (judged starts v))
+    (λ t. rw t (omega (arith, giving-few starts k (suc i) vs)))
+    (λ t. rw t (omega (arith, giving-few starts k (suc i) vs)))
+
+pub giving-below : (starts : List ℕ) (k i : ℕ) (vs : List ℕ) (bound : ℕ) → i + length vs ≤ bound
+    → Below bound (giving starts k i vs)
+unfolding giving
+giving-below starts k i [] bound h = tt
+giving-below starts k i (v ∷ vs) bound h =
+    by-cases (gives k (judged starts v))
+    (λ t. rw t (omega arith, giving-below starts k (suc i) vs bound (omega arith)))
+    (λ t. rw t (giving-below starts k (suc i) vs bound (omega arith)))
+
 module _ (starts : List ℕ) (s : ℕ) (p : List ℕ) (k : ℕ) where
+  -- the places below one more
+  taken-more : k < place-count p
+      → giving starts s 0 (take (k + 1) (places p))
+      ≡ giving starts s 0 (take k (places p)) ++ giving starts s k (place-value p k ∷ [])
+  taken-more within =
+      let below : length (take k (places p)) ≡ k = length-take-le k (places p) (omega (arith, length-places p)) in
+      rw (take-add k 1 (places p), place-turn p k within)
+      (giving-append starts s 0 (take k (places p)) (place-value p k ∷ []) ∙ rw (below, zero-add))
+
   pub giving-goes : k < place-count p → gives s (judged starts (place-value p k)) ≡ false
-      → giving starts s k (drop k (places p)) ≡ giving starts s (k + 1) (drop (k + 1) (places p))
+      → giving starts s 0 (take (k + 1) (places p)) ≡ giving starts s 0 (take k (places p))
   unfolding giving
-  giving-goes within t = rw (place-turn p k within, t, add-one)
+  giving-goes within t = taken-more within ∙ rw t (append-nil (giving starts s 0 (take k (places p))))
 
   pub giving-here : k < place-count p → gives s (judged starts (place-value p k)) ≡ true
-      → giving starts s k (drop k (places p)) ≡ k ∷ giving starts s (k + 1) (drop (k + 1) (places p))
+      → giving starts s 0 (take (k + 1) (places p)) ≡ giving starts s 0 (take k (places p)) ++ (k ∷ [])
   unfolding giving
-  giving-here within t = rw (place-turn p k within, t, add-one)
+  giving-here within t = taken-more within ∙ rw t
 
-  pub giving-over : FreeFrom p k → giving starts s k (drop k (places p)) ≡ []
-  giving-over free = none-give starts s k (drop k (places p)) (free .erased)
+  pub giving-over : FreeFrom p k → giving starts s 0 (take k (places p)) ≡ giving starts s 0 (places p)
+  giving-over free =
+      let front = take k (places p) in
+      let behind = drop k (places p) in
+      sym (ap (giving starts s 0) (sym (take-append-drop k (places p)))
+      ∙ giving-append starts s 0 front behind
+      ∙ rw (none-give starts s (0 + length front) behind (free .erased)) (append-nil (giving starts s 0 front)))
 
 -- ---- a slot in the order
 

@@ -1,40 +1,20 @@
 // Jobs: none, blocks rewritten, bytes into places.
+use super::Noted;
 use super::Rewriting;
 use super::bytes;
 use jobs::Job;
 use jobs::Kind;
 use jobs::Plan;
 ghost use mathlib.Core.Path.{_≡_};
-ghost use mathlib.Core.Bool.{Bool, cond};
-ghost use mathlib.Core.List.{[], _++_};
-ghost use Prim.Native.Nat.{_≤_};
-ghost use Rattle.rules.specs.Steps.{rewrite-pair};
-ghost use Rattle.rules.specs.Commands.{into-places};
-ghost use Rattle.jobs.specs.Jobs.{place-room, numbers-from};
+ghost use mathlib.Core.Bool.{cond};
 ghost use Rattle.jobs.specs.declared.Kind.the-variants.{Nothing, Rewrite};
-ghost use Rattle.blocks.specs.Made.{Lists, no-job, rewriting};
+ghost use Rattle.blocks.specs.Made.{rewrites, unwanted, no-steps, no-job, pair-rewritten, places-written};
 
-// The job of no steps.
+// The job of no steps, for no image.
 pub fn no_job() -> Job
     ensures { λ r. ⌜ r ≡ no-job ⌝ }
 {
-    Job {
-        plan: Plan {
-            len: 0,
-            granule: 0,
-            offset: 0,
-            first: Kind::Nothing,
-            at: 0,
-            second: Kind::Nothing,
-            after: 0,
-            count: 0,
-        },
-        done: 0,
-        first: bytes::erased_block(),
-        second: bytes::erased_block(),
-        places: [0; 1016],
-        value: [0; 8],
-    }
+    no_steps(0, 0)
 }
 
 fn kind_of(wanted: bool) -> Kind
@@ -48,7 +28,7 @@ fn kind_of(wanted: bool) -> Kind
 
 // One block rewritten, then another.
 pub fn rewrites(len: usize, granule: usize, x: Rewriting, y: Rewriting) -> Job
-    ensures { λ r. ⌜ Lists r len granule (rewriting x ++ rewriting y) ⌝ }
+    ensures { λ r. ⌜ r ≡ rewrites len granule x y ⌝ }
 {
     let first = x.block;
     let second = y.block;
@@ -73,7 +53,7 @@ pub fn rewrites(len: usize, granule: usize, x: Rewriting, y: Rewriting) -> Job
 
 // A block that is not rewritten.
 fn unwanted() -> Rewriting
-    ensures { λ r. ⌜ rewriting r ≡ [] ⌝ }
+    ensures { λ r. ⌜ r ≡ unwanted ⌝ }
 {
     Rewriting {
         wanted: false,
@@ -84,14 +64,14 @@ fn unwanted() -> Rewriting
 
 // A job of no steps for an image of this length.
 pub fn no_steps(len: usize, granule: usize) -> Job
-    ensures { λ r. ⌜ Lists r len granule [] ⌝ }
+    ensures { λ r. ⌜ r ≡ no-steps len granule ⌝ }
 {
     rewrites(len, granule, unwanted(), unwanted())
 }
 
 // The same block into both copies of a pair, copy 1 and then copy 0.
 pub fn pair_rewritten(len: usize, granule: usize, a0: u32, a1: u32, block: [u8; 4096]) -> Job
-    ensures { λ r. ⌜ Lists r len granule (rewrite-pair a0 a1 block) ⌝ }
+    ensures { λ r. ⌜ r ≡ pair-rewritten len granule a0 a1 block ⌝ }
 {
     let x = Rewriting {
         wanted: true,
@@ -106,24 +86,19 @@ pub fn pair_rewritten(len: usize, granule: usize, a0: u32, a1: u32, block: [u8; 
     rewrites(len, granule, x, y)
 }
 
-// Eight bytes into the places of which an array has the numbers in front, in the block at one address, then in the block at another.
+// Eight bytes into the places noted, in the block at one address, then in the block at another.
 pub fn into_places(
     len: usize,
     granule: usize,
     offset: u32,
     at: u32,
     after: u32,
-    places: [u8; 1016],
-    count: usize,
+    found: Noted,
     value: [u8; 8],
 ) -> Job
-    requires { ⌜ count ≤ place-room ⌝ }
-    ensures { λ r. ⌜
-        Lists r len granule
-        (into-places at offset value (numbers-from count places)
-        ++ into-places after offset value (numbers-from count places))
-        ⌝ }
+    ensures { λ r. ⌜ r ≡ places-written len granule offset at after found value ⌝ }
 {
+    let numbers = found.places;
     Job {
         plan: Plan {
             len: len,
@@ -133,12 +108,12 @@ pub fn into_places(
             at: at,
             second: Kind::Places,
             after: after,
-            count: count,
+            count: found.count,
         },
         done: 0,
         first: bytes::erased_block(),
         second: bytes::erased_block(),
-        places: places,
+        places: numbers,
         value: value,
     }
 }

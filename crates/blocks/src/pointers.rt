@@ -1,33 +1,34 @@
-// The places of a pointer block p by a table t, of which the first n entries count: the slot that comes first, and the
-// places that give a slot.
+// The places of a pointer block p by a table t: the slot that comes first, and the places that give a slot.
 use super::Noted;
+use places::Places;
 use rules::Place;
 use rules::PlaceNo;
 use rules::SlotNo;
-use slots::LastSlots;
+use slots::Rows;
 ghost use mathlib.Core.Path.{_≡_};
 ghost use mathlib.Core.List.{[], _∷_};
 ghost use Prim.Native.Nat.{_*_, _<_};
 ghost use lib.ListN.{length, getD};
-ghost use Rattle.rules.specs.Table.{rows, slot-starts};
-ghost use Rattle.rules.specs.Pointers.{place-count, places, order, judged, gives};
-ghost use Rattle.rules.specs.Commands.{is-first, giving};
+ghost use Rattle.rules.specs.Table.{starts};
+ghost use Rattle.rules.specs.Pointers.{judged, gives};
+ghost use Rattle.rules.specs.Copies.{order-by};
+ghost use Rattle.rules.specs.Commands.{is-first};
 ghost use Rattle.jobs.specs.Jobs.{place-room};
-ghost use Rattle.places.specs.StandingPointers.{FreeFrom};
 ghost use Rattle.places.specs.Added.{place-value};
-ghost use Rattle.blocks.specs.Walked.{Readable, Notes, is-live, noted};
+ghost use Rattle.blocks.specs.Made.{places-noted};
+ghost use Rattle.blocks.specs.Walked.{Readable, places-giving, is-live, noted};
 
 // ---- the slot that comes first
 
-// The slot is the first of the boot order: the highest live place gives it. From `free` on all places are erased.
-pub fn comes_first(t: &[u8], n: usize, last: LastSlots, p: &[u8], free: usize, slot: SlotNo) -> bool
-    requires { ⌜ Readable (now t) n last (now p) × FreeFrom (now p) free ⌝ }
-    ensures { λ r. ⌜ r ≡ is-first (slot .0) (order (slot-starts (rows n (now (t .entry)))) (places (now (p .entry)))) ⌝ }
+// The slot is the first of the boot order: the highest live place gives it.
+pub fn comes_first(t: &[u8], rows: Rows, p: &[u8], places: Places, slot: SlotNo) -> bool
+    requires { ⌜ Readable (now t) rows (now p) places ⌝ }
+    ensures { λ r. ⌜ r ≡ is-first (slot .0) (order-by (now (t .entry)) (now (p .entry))) ⌝ }
 {
-    let mut k = free;
+    let mut k = places.free.0;
     while 0 < k {
         k -= 1;
-        let judgement = places::judge(t, n, last, places::place_value(p, PlaceNo(k)));
+        let judgement = places::judge(t, rows, places::place_value(p, places, PlaceNo(k)));
         if is_live(judgement) {
             return gives(slot, judgement);
         }
@@ -57,32 +58,20 @@ fn gives(slot: SlotNo, place: Place) -> bool
 
 // ---- the places that give a slot
 
-// The places that give a slot, which starts there, lowest first. From `free` on all places are erased.
-pub fn giving(
-    t: &[u8],
-    n: usize,
-    last: LastSlots,
-    p: &[u8],
-    free: usize,
-    slot: SlotNo,
-    start: u64,
-) -> Noted
-    requires { ⌜
-        (Readable (now t) n last (now p) × FreeFrom (now p) free)
-        × (start ≡ getD (slot-starts (rows n (now t))) (slot .0) 0)
-        ⌝ }
-    ensures { λ r. ⌜
-        Notes r (giving (slot-starts (rows n (now (t .entry)))) (slot .0) 0 (places (now (p .entry))))
-        ⌝ }
+// The places that give a slot, which starts there, lowest first.
+pub fn giving(t: &[u8], rows: Rows, p: &[u8], places: Places, slot: SlotNo, start: u64) -> Noted
+    requires { ⌜ Readable (now t) rows (now p) places × (start ≡ getD (starts (now t)) (slot .0) 0) ⌝ }
+    ensures { λ r. ⌜ r ≡ places-noted (places-giving (now (t .entry)) (now (p .entry)) (slot .0)) ⌝ }
 {
+    let end = places.free.0;
     let mut numbers = [0; 1016];
     let mut met = 0;
     let mut next = 0;
-    while next < free {
+    while next < end {
         let k = next;
         next += 1;
-        if does_give(t, n, last, p, PlaceNo(k), slot, start) {
-            note(&mut numbers, met, k);
+        if does_give(t, rows, p, places, PlaceNo(k), slot, start) {
+            note(&mut numbers, met, PlaceNo(k));
             met += 1;
         }
     }
@@ -95,32 +84,32 @@ pub fn giving(
 // The place gives the slot, which starts there. A place that gives it has its start, so that the others are not judged.
 fn does_give(
     t: &[u8],
-    n: usize,
-    last: LastSlots,
+    rows: Rows,
     p: &[u8],
+    places: Places,
     place: PlaceNo,
     slot: SlotNo,
     start: u64,
 ) -> bool
     requires { ⌜
-        (Readable (now t) n last (now p) × (place .0 < place-count (now p)))
-        × (start ≡ getD (slot-starts (rows n (now t))) (slot .0) 0)
+        (Readable (now t) rows (now p) places × (place .0 < places .count))
+        × (start ≡ getD (starts (now t)) (slot .0) 0)
         ⌝ }
     ensures { λ r. ⌜
-        r ≡ gives (slot .0) (judged (slot-starts (rows n (now (t .entry)))) (place-value (now (p .entry)) (place .0)))
+        r ≡ gives (slot .0) (judged (starts (now (t .entry))) (place-value (now (p .entry)) (place .0)))
         ⌝ }
 {
-    let v = places::place_value(p, place);
+    let v = places::place_value(p, places, place);
     if v != start {
         return false;
     }
-    gives(slot, places::judge(t, n, last, v))
+    gives(slot, places::judge(t, rows, v))
 }
 
 // A place number by itself.
-pub fn one_place(place: usize) -> Noted
-    requires { ⌜ place < place-room ⌝ }
-    ensures { λ r. ⌜ Notes r (place ∷ []) ⌝ }
+pub fn one_place(place: PlaceNo) -> Noted
+    requires { ⌜ place .0 < place-room ⌝ }
+    ensures { λ r. ⌜ r ≡ places-noted (place .0 ∷ []) ⌝ }
 {
     let mut numbers = [0; 1016];
     note(&mut numbers, 0, place);
@@ -131,10 +120,10 @@ pub fn one_place(place: usize) -> Noted
 }
 
 // A place number as the i-th of a row of numbers of two bytes each, lowest byte first.
-fn note(numbers: &mut [u8], i: usize, place: usize)
-    requires { ⌜ (length (now numbers) ≡ 2 * place-room) × ((i < place-room) × (place < place-room)) ⌝ }
-    ensures { λ _. ⌜ now (numbers .exit) ≡ noted i place (now (numbers .entry)) ⌝ }
+fn note(numbers: &mut [u8], i: usize, place: PlaceNo)
+    requires { ⌜ (length (now numbers) ≡ 2 * place-room) × ((i < place-room) × (place .0 < place-room)) ⌝ }
+    ensures { λ _. ⌜ now (numbers .exit) ≡ noted i (place .0) (now (numbers .entry)) ⌝ }
 {
-    numbers[2 * i] = (place % 256) as u8;
-    numbers[2 * i + 1] = (place / 256) as u8;
+    numbers[2 * i] = (place.0 % 256) as u8;
+    numbers[2 * i + 1] = (place.0 / 256) as u8;
 }

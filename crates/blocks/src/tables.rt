@@ -3,34 +3,31 @@
 use super::bytes;
 use rules::EntryNo;
 use rules::SlotNo;
-use slots::LastSlots;
+use slots::Rows;
 ghost use mathlib.Core.Path.{_≡_};
-ghost use mathlib.Core.Bool.{Bool, true};
+ghost use mathlib.Core.Bool.{true};
 ghost use Prim.Native.Nat.{_≤_, _<_};
 ghost use lib.ListN.{length, getD};
 ghost use Rattle.rules.specs.Lists.{member, without};
 ghost use Rattle.rules.specs.Bytes.{block-size, up-to-zero};
-ghost use Rattle.rules.specs.Table.{rows, slots, slot-starts};
+ghost use Rattle.rules.specs.Table.{rows, entries, slots, slot-starts, starts};
 ghost use Rattle.rules.specs.Commands.{half-cleared-names, put-name, name-allowed, name-free};
-ghost use Rattle.walks.specs.Entries.{most-entries};
-ghost use Rattle.slots.specs.Ends.{Ends};
+ghost use Rattle.walks.specs.Entries.{most-entries, HasEntries};
+ghost use Rattle.slots.specs.RowsOf.{HasRows};
 
 // Where a slot starts.
-pub fn slot_start(t: &[u8], n: usize, last: LastSlots, slot: SlotNo) -> u64
-    requires { ⌜
-        (((length (now t) ≡ block-size) × (n ≤ most-entries)) × Ends (now t) n last)
-        × (slot .0 < length (slots (rows n (now t))))
-        ⌝ }
-    ensures { λ r. ⌜ r ≡ getD (slot-starts (rows n (now (t .entry)))) (slot .0) 0 ⌝ }
+pub fn slot_start(t: &[u8], rows: Rows, slot: SlotNo) -> u64
+    requires { ⌜ HasRows (now t) rows × (slot .0 < length (slots (entries (now t)))) ⌝ }
+    ensures { λ r. ⌜ r ≡ getD (starts (now (t .entry))) (slot .0) 0 ⌝ }
 {
-    entries::entry_start(t, slots::row_of(t, n, last, slot))
+    entries::entry_start(t, slots::row_of(t, rows, slot))
 }
 
 // ---- a start half cleared
 
 // A slot other than the one that starts at a starts at v.
 fn names_other(t: &[u8], n: usize, a: u64, v: u64) -> bool
-    requires { ⌜ (length (now t) ≡ block-size) × (n ≤ most-entries) ⌝ }
+    requires { ⌜ HasEntries (now t) n ⌝ }
     ensures { λ r. ⌜ r ≡ member v (without a (slot-starts (rows n (now (t .entry))))) ⌝ }
 {
     let found = slots::find_slot(t, n, v);
@@ -39,7 +36,7 @@ fn names_other(t: &[u8], n: usize, a: u64, v: u64) -> bool
 
 // The start with its lowest 1, 2 or 3 bytes set to 0 is another slot's.
 pub fn half_cleared_names(t: &[u8], n: usize, start: u64) -> bool
-    requires { ⌜ (length (now t) ≡ block-size) × (n ≤ most-entries) ⌝ }
+    requires { ⌜ HasEntries (now t) n ⌝ }
     ensures { λ r. ⌜ r ≡ half-cleared-names (slot-starts (rows n (now (t .entry)))) start ⌝ }
 {
     names_other(t, n, start, start / 0x100 * 0x100)
@@ -61,7 +58,7 @@ pub fn name_allowed(name: &[u8]) -> bool
 
 // No entry other than this one has the name.
 pub fn name_free(t: &[u8], n: usize, e: EntryNo, name: &[u8]) -> bool
-    requires { ⌜ (length (now t) ≡ block-size) × (n ≤ most-entries) ⌝ }
+    requires { ⌜ HasEntries (now t) n ⌝ }
     ensures { λ r. ⌜ r ≡ name-free (rows n (now (t .entry))) (e .0) (up-to-zero (now (name .entry))) ⌝ }
 {
     let row = e.0;

@@ -1,8 +1,17 @@
-// A book of readings kept apart from the commands, for the programs that try them on real bytes.
+// Document 01's book for the programs that try the commands on real bytes: what a flash reads as, and the change that
+// each finished command makes.
 use order::Order;
 use reading::Listed;
 use reading::Viewed;
 use rules::SlotNo;
+ghost use mathlib.Core.Path.{_≡_};
+ghost use Prim.Native.Nat.{_+_, _≤_};
+ghost use lib.ListN.{length};
+ghost use Rattle.rules.specs.Lists.{same};
+ghost use Rattle.rules.specs.Bytes.{block, block-size};
+ghost use Rattle.rules.specs.Copies.{pairs-agree};
+ghost use Rattle.rules.specs.Book.{reading};
+ghost use Rattle.book.specs.Kept.{setting-of, command-of, reading-of, read-as, same-reading, same-answer, taken};
 
 pub mod order;
 pub mod parts;
@@ -28,61 +37,110 @@ pub struct Book {
     pub order: Order,
 }
 
-// The reading of a flash. One that is refused has a count that no order has.
-pub fn read_book(image: &[u8], s: Setting) -> Book {
-    let mut row = [0u32; 8];
+pub enum Answer {
+    Given,
+    Refused(u8),
+}
+
+// What a flash reads as: beside a refusal the book means nothing.
+pub struct Read {
+    pub book: Book,
+    pub answer: Answer,
+}
+
+// The reading of a flash, or the refusal.
+pub fn read_book(image: &[u8], s: Setting) -> Read
+    ensures { λ r. ⌜ read-as r ≡ reading (setting-of s) (now (image .entry)) ⌝ }
+{
+    let mut row = order::no_slots();
     let listed = reading::order_list(image, s.granule, s.spt0, s.spt1, &mut row);
-    let table = parts::block_of(reading::table_read(image, s.granule, s.spt0, s.spt1));
+    match listed {
+        Listed::Refused(number) => Read {
+            book: book_of(parts::no_block(), row, 0),
+            answer: Answer::Refused(number),
+        },
+        Listed::Count(n) => {
+            let table = parts::block_of(reading::table_read(image, s.granule, s.spt0, s.spt1));
+            Read {
+                book: book_of(table, row, n),
+                answer: Answer::Given,
+            }
+        }
+    }
+}
+
+fn book_of(table: [u8; 4096], row: [u32; order::ROOM], count: usize) -> Book
+    ensures { λ r. ⌜ r ≡ record { table = table; order = record { row = row; count = count } } ⌝ }
+{
     Book {
         table: table,
         order: Order {
             row: row,
-            count: count_of(listed),
+            count: count,
         },
     }
 }
 
-fn count_of(listed: Listed) -> usize {
-    match listed {
-        Listed::Count(n) => n,
-        Listed::Refused(_) => 9,
+// The flash reads as the book says.
+pub fn reads_as(read: Read, book: Book) -> bool
+    ensures { λ r. ⌜ r ≡ same-answer (read-as read) (reading-of book) ⌝ }
+{
+    let answer = read.answer;
+    let kept = read.book;
+    match answer {
+        Answer::Refused(_) => false,
+        Answer::Given => same_book(kept, book),
     }
 }
 
-pub fn same_book(a: Book, b: Book) -> bool {
+pub fn same_book(a: Book, b: Book) -> bool
+    ensures { λ r. ⌜ r ≡ same-reading (reading-of a) (reading-of b) ⌝ }
+{
     let one = a.table;
     let other = b.table;
     let first = a.order;
     let second = b.order;
-    check::same(&one, &other) & order::same_order(first, second)
+    parts::same_bytes(&one, &other) & order::same_order(first, second)
 }
 
 // The book after a finished command.
-pub fn booked(book: Book, command: Command) -> Book {
+pub fn booked(book: Book, command: Command) -> Book
+    ensures { λ r. ⌜ reading-of r ≡ taken (command-of command) (reading-of book) ⌝ }
+{
     let table = book.table;
     let order = book.order;
     match command {
-        Command::Enable(slot) => with_order(table, order::with_first(order, slot.0)),
-        Command::Disable(slot) => with_order(table, order::without(order, slot.0)),
+        Command::Enable(slot) => with_order(table, order::with_first(order, slot)),
+        Command::Disable(slot) => with_order(table, order::without(order, slot)),
         Command::Rename(slot) => with_order(parts::renamed(table, slot), order),
-        Command::Repair => with_order(table, order),
+        Command::Repair => book,
     }
 }
 
-fn with_order(table: [u8; 4096], order: Order) -> Book {
+fn with_order(table: [u8; 4096], order: Order) -> Book
+    ensures { λ r. ⌜ r ≡ record { table = table; order = order } ⌝ }
+{
     Book {
         table: table,
         order: order,
     }
 }
 
-// Both pairs are equal: with a copy read, both copies then stand.
-pub fn pairs_agree(image: &[u8], s: Setting) -> bool {
+// The flash can be read and both its pairs agree. With a copy read, both copies stand if they are equal.
+pub fn pairs_agree(image: &[u8], s: Setting) -> bool
+    ensures { λ r. ⌜ r ≡ pairs-agree (setting-of s) (now (image .entry)) ⌝ }
+{
     let seen = reading::view(image, s.granule, s.spt0, s.spt1);
     match seen {
         Viewed::Refused(_) => false,
-        Viewed::At(v) => {
-            parts::same_blocks(image, v.spt0, v.spt1) & parts::same_blocks(image, v.cpb0, v.cpb1)
-        }
+        Viewed::At(v) => { same_blocks(image, v.spt0, v.spt1) & same_blocks(image, v.cpb0, v.cpb1) }
     }
+}
+
+// The blocks at two addresses are equal.
+fn same_blocks(image: &[u8], a: usize, b: usize) -> bool
+    requires { ⌜ (a + block-size ≤ length (now image)) × (b + block-size ≤ length (now image)) ⌝ }
+    ensures { λ r. ⌜ r ≡ same (block (now (image .entry)) a) (block (now (image .entry)) b) ⌝ }
+{
+    parts::same_bytes(fields::block_at(image, a), fields::block_at(image, b))
 }

@@ -1,72 +1,133 @@
-// A boot order of at most eight slots, as a value.
+// A boot order, as a value.
+use rules::SlotNo;
+ghost use mathlib.Core.Path.{_≡_};
+ghost use mathlib.Core.Bool.{cond};
+ghost use mathlib.Core.List.{[], _∷_};
+ghost use Prim.Native.Nat.{min};
+ghost use lib.Dec.{leb};
+ghost use lib.ListN.{length};
+ghost use Rattle.rules.specs.Lists.{same, without};
+ghost use Rattle.walks.specs.Entries.{most-entries};
+ghost use Rattle.text.specs.Put.{Put};
+ghost use Rattle.book.specs.Kept.{room, no-slots, slots-of};
 
-// The slot numbers, first in the order first. Those past the count are 0.
+// A table has at most 127 slots, and one more may be put before them.
+pub const ROOM: usize = 128;
+
+// The slot numbers, first in the order first. Those past the count are not meant.
 pub struct Order {
-    pub row: [u32; 8],
+    pub row: [u32; ROOM],
     pub count: usize,
 }
 
-fn empty() -> Order {
-    Order {
-        row: [0; 8],
-        count: 0,
-    }
+pub fn no_slots() -> [u32; ROOM]
+    ensures { λ r. ⌜ r ≡ no-slots ⌝ }
+{
+    [0; ROOM]
 }
 
-fn with_last(order: Order, slot: u32) -> Order {
-    let at = order.count;
-    if 8 <= at {
-        return order;
+// How many of the row are meant.
+fn meant(order: Order) -> usize
+    ensures { λ r. ⌜ r ≡ min (order .count) room ⌝ }
+{
+    if order.count < ROOM {
+        return order.count;
     }
-    let mut longer = order;
-    longer.row[at] = slot;
-    longer.count = at + 1;
-    longer
+    ROOM
 }
 
-// An order with the slot at one rank of another behind it, unless it is the slot to be left out.
-fn with_next(kept: Order, order: Order, i: usize, left_out: u32) -> Order {
-    if order.count <= i {
-        return kept;
+// ---- into a row, from an index on: where that ends
+
+fn put_slot(row: &mut [u32], at: usize, slot: SlotNo) -> usize
+    ensures { λ r. ⌜ Put (now (row .entry)) at (slot .0 ∷ []) (now (row .exit)) r ⌝ }
+{
+    if at < row.len() {
+        row[at] = slot.0;
+        return at + 1;
     }
-    if 8 <= i {
-        return kept;
-    }
-    let slot = order.row[i];
-    if slot == left_out {
-        return kept;
-    }
-    with_last(kept, slot)
+    at
 }
 
-// An order, and behind it another without one slot.
-fn joined(first: Order, order: Order, left_out: u32) -> Order {
-    let mut kept = first;
+// A slot, unless it is the one to be left out.
+fn put_other(row: &mut [u32], at: usize, slot: SlotNo, absent: SlotNo) -> usize
+    ensures { λ r. ⌜ Put (now (row .entry)) at (without (absent .0) (slot .0 ∷ [])) (now (row .exit)) r ⌝ }
+{
+    if absent.0 == slot.0 {
+        return at;
+    }
+    put_slot(row, at, slot)
+}
+
+// Slots in their order, without one.
+fn put_others(row: &mut [u32], at: usize, slots: &[u32], absent: SlotNo) -> usize
+    ensures { λ r. ⌜ Put (now (row .entry)) at (without (absent .0) (now (slots .entry))) (now (row .exit)) r ⌝ }
+{
+    let mut end = at;
     let mut i = 0;
-    while i < 8 {
-        kept = with_next(kept, order, i, left_out);
+    while i < slots.len() {
+        end = put_other(row, end, SlotNo(slots[i]), absent);
         i += 1;
     }
-    kept
+    end
 }
 
-pub fn without(order: Order, slot: u32) -> Order {
-    joined(empty(), order, slot)
+// ---- orders
+
+// An order without a slot.
+pub fn without(order: Order, slot: SlotNo) -> Order
+    ensures { λ r. ⌜ slots-of r ≡ without (slot .0) (slots-of order) ⌝ }
+{
+    let old = order.row;
+    let n = meant(order);
+    let mut row = no_slots();
+    let count = put_others(&mut row, 0, &old[..n], slot);
+    Order {
+        row: row,
+        count: count,
+    }
 }
 
-pub fn with_first(order: Order, slot: u32) -> Order {
-    joined(with_last(empty(), slot), order, slot)
+// The slot first, and then the others; the order as it was where it has more slots than a table.
+pub fn with_first(order: Order, slot: SlotNo) -> Order
+    ensures { λ r. ⌜ slots-of r
+        ≡ cond (leb (length (slots-of order)) most-entries) (slot .0 ∷ without (slot .0) (slots-of order)) (slots-of order) ⌝ }
+{
+    let old = order.row;
+    let n = meant(order);
+    if entries::MOST_ENTRIES < n {
+        return order;
+    }
+    let mut row = no_slots();
+    let at = put_slot(&mut row, 0, slot);
+    let count = put_others(&mut row, at, &old[..n], slot);
+    Order {
+        row: row,
+        count: count,
+    }
 }
 
-pub fn same_order(a: Order, b: Order) -> bool {
+pub fn same_order(a: Order, b: Order) -> bool
+    ensures { λ r. ⌜ r ≡ same (slots-of a) (slots-of b) ⌝ }
+{
     let one = a.row;
     let other = b.row;
+    let n = meant(a);
+    let m = meant(b);
+    same_slots(&one[..n], &other[..m])
+}
+
+fn same_slots(a: &[u32], b: &[u32]) -> bool
+    ensures { λ r. ⌜ r ≡ same (now (a .entry)) (now (b .entry)) ⌝ }
+{
+    if a.len() != b.len() {
+        return false;
+    }
     let mut i = 0;
-    while i < 8 {
-        if one[i] != other[i] {
+    while i < a.len() {
+        if a[i] != b[i] {
             return false;
         }
         i += 1;
     }
-    a.count == b.count
+    true
 }

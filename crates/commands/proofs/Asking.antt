@@ -1,7 +1,7 @@
 -- A command refusal by refusal, once the view of the flash is known. Assumes nothing.
 use mathlib.Core.Path.{_≡_, refl, sym, ap, _∙_}
 use mathlib.Core.Bool.{Bool, true, false}
-use mathlib.Core.List.{List, _++_}
+use mathlib.Core.List.{List}
 use Prim.Native.Nat.{ℕ, _≤_, _<_}
 use native.Mathlib.Omega.{arith}
 use lib.Dec.{ltb}
@@ -11,11 +11,11 @@ use Rattle.rules.specs.Lists.{member}
 use Rattle.rules.specs.Bytes.{block}
 use Rattle.rules.specs.Answers.{Answer, refused, given, unless, _>>=_}
 use Rattle.rules.specs.Numbers.{Setting, setting}
-use Rattle.rules.specs.Table.{entry-count, entries, rows, slots, slot-starts, starts}
+use Rattle.rules.specs.Table.{entry-count, entries, rows, slots, starts}
 use Rattle.rules.specs.Pointers.{places}
 use Rattle.rules.specs.Copies.{view, agree-by, order-by, boot-order}
 use Rattle.rules.specs.Readers.{slot-row, slot-there}
-use Rattle.rules.specs.Commands.{Command, enable, disable, rename, repair, enable-steps, disable-steps, rename-steps, giving, name-allowed, name-free, job, start}
+use Rattle.rules.specs.Commands.{Command, enable, disable, rename, repair, disable-steps, rename-steps, repair-steps, giving, name-allowed, name-free, job}
 use Rattle.rules.specs.declared.Step.{Step}
 use Rattle.rules.specs.declared.View.{View}
 use Rattle.rules.proofs.Tests.{unless-given}
@@ -25,35 +25,36 @@ use Rattle.reading.specs.Answers.{viewed}
 use Rattle.reading.specs.declared.Viewed.{Viewed}
 use Rattle.reading.specs.declared.Viewed.the-variants.{At, Refused as NotViewed}
 use Rattle.jobs.specs.declared.Job.{Job}
-use Rattle.blocks.specs.Made.{Lists}
 use Rattle.blocks.proofs.Walking.{in-order}
-use Rattle.commands.specs.Begins.{refusal, started, begins}
-use Rattle.commands.specs.Asked.{outcome, copies-equal, slot-asked, repaired}
+use Rattle.commands.specs.JobFor.{enable-job, disable-job, rename-job, repair-job, job-for}
+use Rattle.commands.specs.Begins.{refusal, started, returned, job-by, start-result}
+use Rattle.commands.specs.Asked.{outcome, copies-equal, slot-asked}
 use Rattle.commands.specs.declared.Begun.{Begun}
 use Rattle.commands.specs.declared.Outcome.{Outcome}
 use Rattle.commands.specs.declared.Outcome.the-variants.{Started, Refused}
-use Rattle.commands.proofs.EqualCopies.{pairs-agree-if-equal, repair-by-copies}
+use Rattle.commands.proofs.EqualCopies.{pairs-agree-if-equal}
 use Rattle.commands.proofs.Locating.{same-setting}
 
 -- ---- what a start returns
 
-module _ (r : Begun) (len g : ℕ) (a : Answer (List Step)) where
-  pub begins-refused : (n : ℕ) → r ≡ refusal n → a ≡ refused n → begins r len g a
-  unfolding begins
-  begins-refused n er ea = rw ea er
+module _ (s : Setting) (img : List ℕ) (v : View) (c : Command) (r : Begun) where
+  pub returns-refused : (n : ℕ) → r ≡ refusal n → job s img v c ≡ refused n → r ≡ returned (job-by s img v c)
+  unfolding returned job-by _>>=_
+  returns-refused n er ea = rw ea er
 
-  pub begins-started : (j : Job) (ss : List Step) → r ≡ started j → Lists j len g ss → a ≡ given ss → begins r len g a
-  unfolding begins
-  begins-started j ss er l ea = rw (ea, er) (refl, l)
+  returns-started : (j : Job) (ss : List Step) → r ≡ started j → j ≡ job-for (s .granule) img v c → job s img v c ≡ given ss
+      → r ≡ returned (job-by s img v c)
+  unfolding returned job-by _>>=_
+  returns-started j ss er ej ea = rw ea (er ∙ ap started ej)
 
 -- ---- the view
 
 module _ (g a b : ℕ) (img : List ℕ) (r : Viewed) (e : viewed r ≡ view (setting g a b) img) where
   -- what is begun where there is no view
-  pub begins-unseen : (c : Command) (begun : Begun) (n : ℕ) → r ≡ NotViewed n → begun ≡ refusal n
-      → begins begun (length img) g (start (setting g a b) img c)
-  unfolding start _>>=_ viewed
-  begins-unseen c begun n q er = begins-refused begun (length img) g (start (setting g a b) img c) n er (rw (← e, q))
+  pub result-unseen : (c : Command) (begun : Begun) (n : ℕ) → r ≡ NotViewed n → begun ≡ refusal n
+      → begun ≡ start-result (setting g a b) img c
+  unfolding start-result returned _>>=_ viewed
+  result-unseen c begun n q er = rw (← e, q) er
 
   module _ (v : View) (q : r ≡ At v) where
     view-given : view (setting g a b) img ≡ given v
@@ -64,19 +65,20 @@ module _ (g a b : ℕ) (img : List ℕ) (r : Viewed) (e : viewed r ≡ view (set
     view-again = rw (same-setting g a b img v view-given) view-given
 
     -- what is begun by the view
-    pub begins-seen : (c : Command) (begun : Begun)
-        → begins begun (length img) g (job (setting g (v .spt0) (v .spt1)) img v c)
-        → begins begun (length img) g (start (setting g a b) img c)
-    unfolding start _>>=_
-    begins-seen c begun h = rw (view-given, ← same-setting g a b img v view-given) h
+    pub result-seen : (c : Command) (begun : Begun)
+        → begun ≡ returned (job-by (setting g (v .spt0) (v .spt1)) img v c)
+        → begun ≡ start-result (setting g a b) img c
+    unfolding start-result _>>=_
+    result-seen c begun h = rw (view-given, ← same-setting g a b img v view-given) h
 
 -- ---- repair
 
-pub repair-given : (s : Setting) (img : List ℕ) (v : View) → view s img ≡ given v
-    → job s img v repair
-    ≡ given (repaired img (v .spt0) (v .spt1) (v .table) ++ repaired img (v .cpb0) (v .cpb1) (v .pointers))
-unfolding job
-repair-given s img v h = ap given (repair-by-copies s img v h)
+pub repair-started : (s : Setting) (img : List ℕ) (v : View) (r : Begun) (j : Job)
+    → r ≡ started j
+    → j ≡ repair-job (s .granule) img v
+    → r ≡ returned (job-by s img v repair)
+unfolding job job-for
+repair-started s img v r j er ej = returns-started s img v repair r j (repair-steps s img v) er ej refl
 
 -- ---- refusals 6 and 7
 
@@ -145,12 +147,44 @@ module _ (s : Setting) (img : List ℕ) (v : View) (h : view s img ≡ given v) 
 
       -- ---- the commands after these, by the table t and the pointer block p read
 
+      module _ (t p : List ℕ) (et : t ≡ block img (v .table)) (ep : p ≡ block img (v .pointers)) where
+        pub slot-counted : k < length (slots (entries t))
+        unfolding slot-there
+        slot-counted = rw et (ltb-true k (length (slots (entries (block img (v .table))))) slot-is-there)
+
+        pub enable-started : (r : Begun) (j : Job)
+            → r ≡ started j
+            → j ≡ enable-job (length img) (s .granule) (v .cpb0) (v .cpb1) (starts t) p k
+            → r ≡ returned (job-by s img v (enable k))
+        unfolding job job-for
+        enable-started r j er ej = returns-started s img v (enable k) r j _ er (ej ∙ rw (et, ep)) (passed-by _)
+
+        module _ (ks : List ℕ) (ek : ks ≡ giving (starts t) k 0 (places p)) where
+          ordered : member k (boot-order img v) ≡ ltb 0 (length ks)
+          unfolding boot-order order-by
+          ordered = rw (ek, ← et, ← ep) (in-order (starts t) k 0 (places p))
+
+          pub disable-refused-8 : length ks ≡ 0 → job s img v (disable k) ≡ refused 8
+          unfolding job unless
+          disable-refused-8 none = passed-by _ ∙ rw (ordered, none)
+
+          pub disable-started : 0 < length ks
+              → (r : Begun) (j : Job)
+              → r ≡ started j
+              → j ≡ disable-job (length img) (s .granule) (v .cpb0) (v .cpb1) (starts t) p k
+              → r ≡ returned (job-by s img v (disable k))
+          unfolding job job-for unless
+          disable-started some r j er ej =
+              returns-started s img v (disable k) r j
+              (disable-steps (v .cpb0) (v .cpb1) (starts (block img (v .table))) (block img (v .pointers)) k) er
+              (ej ∙ rw (et, ep)) (passed-by _ ∙ rw (ordered, lt-ltb 0 (length ks) some))
+
       module _ (t : List ℕ) (n : ℕ) (et : t ≡ block img (v .table)) (en : n ≡ entry-count t) where
         same-rows : rows n t ≡ entries (block img (v .table))
         unfolding entries
         same-rows = rw (en, et)
 
-        pub slot-below : k < length (slots (rows n t))
+        slot-below : k < length (slots (rows n t))
         unfolding slot-there
         slot-below = rw same-rows (ltb-true k (length (slots (entries (block img (v .table))))) slot-is-there)
 
@@ -158,30 +192,6 @@ module _ (s : Setting) (img : List ℕ) (v : View) (h : view s img ≡ given v) 
         row-below row er =
             let (found, _) = slot-row-found (rows n t) k slot-below in
             omega (arith, found, length-entries-from n (drop 0x20 t))
-
-        module _ (p : List ℕ) (ep : p ≡ block img (v .pointers)) where
-          same-starts : slot-starts (rows n t) ≡ starts (block img (v .table))
-          unfolding starts
-          same-starts = ap slot-starts same-rows
-
-          pub enable-given : job s img v (enable k) ≡ given (enable-steps (v .cpb0) (v .cpb1) (slot-starts
-              (rows n t)) p k)
-          unfolding job
-          enable-given = passed-by _ ∙ rw (same-starts, ep)
-
-          module _ (ks : List ℕ) (ek : ks ≡ giving (slot-starts (rows n t)) k 0 (places p)) where
-            ordered : member k (boot-order img v) ≡ ltb 0 (length ks)
-            unfolding boot-order order-by
-            ordered = rw (ek, ← same-starts, ← ep) (in-order (slot-starts (rows n t)) k 0 (places p))
-
-            pub disable-refused-8 : length ks ≡ 0 → job s img v (disable k) ≡ refused 8
-            unfolding job unless
-            disable-refused-8 none = passed-by _ ∙ rw (ordered, none)
-
-            pub disable-given : 0 < length ks
-                → job s img v (disable k) ≡ given (disable-steps (v .cpb0) (v .cpb1) (slot-starts (rows n t)) p k)
-            unfolding job unless
-            disable-given some = passed-by _ ∙ rw (ordered, lt-ltb 0 (length ks) some, same-starts, ep)
 
         module _ (name : List ℕ) where
           pub rename-refused-9 : name-allowed name ≡ false → job s img v (rename k name) ≡ refused 9
@@ -194,7 +204,13 @@ module _ (s : Setting) (img : List ℕ) (v : View) (h : view s img ≡ given v) 
             unfolding job unless
             rename-refused-10 f = passed-by _ ∙ rw (allowed, ← same-rows, f)
 
-            pub rename-given : name-free (rows n t) (slot-row (rows n t) k) name ≡ true
-                → job s img v (rename k name) ≡ given (rename-steps (v .spt0) (v .spt1) t k name)
-            unfolding job unless
-            rename-given f = passed-by _ ∙ rw (allowed, ← same-rows, f, ← et)
+            pub rename-started : name-free (rows n t) (slot-row (rows n t) k) name ≡ true
+                → (r : Begun) (j : Job)
+                → r ≡ started j
+                → j ≡ rename-job (length img) (s .granule) (v .spt0) (v .spt1) t k name
+                → r ≡ returned (job-by s img v (rename k name))
+            unfolding job job-for unless
+            rename-started f r j er ej =
+                returns-started s img v (rename k name) r j
+                (rename-steps (v .spt0) (v .spt1) (block img (v .table)) k name) er (ej ∙ rw et)
+                (passed-by _ ∙ rw (allowed, ← same-rows, f))

@@ -16,13 +16,16 @@ use Rattle.rules.specs.Numbers.{Setting}
 use Rattle.rules.specs.Table.{table-stands}
 use Rattle.rules.specs.Pointers.{pointers-stand}
 use Rattle.rules.specs.Copies.{copy-read, table-read, pointers-read, view, pair-agrees, tables-agree, pointers-agree, agree-by}
+use Rattle.rules.specs.Steps.{rewrite}
 use Rattle.rules.specs.Commands.{repair-pair, repair-steps}
 use Rattle.rules.specs.declared.View.{View}
 use Rattle.rules.proofs.Tests.{by-cases, clash, same-true}
 use Rattle.rules.proofs.CopyRead.{WhichAddress, which-address, equal-agree}
 use Rattle.walks.proofs.Joined.{and-assoc, and-with-true, and-with-false}
 use Rattle.reading.proofs.Seen.{seen}
-use Rattle.commands.specs.Asked.{copies-equal, repaired}
+use Rattle.blocks.proofs.JobSteps.{rewriting}
+use Rattle.commands.specs.JobFor.{repaired}
+use Rattle.commands.specs.Asked.{copies-equal}
 
 -- ---- two lists compared: `equal` tells whether the elements before the i-th are
 
@@ -64,6 +67,12 @@ module _ (a b : List ℕ) (from size : ℕ) (same-length : length a ≡ length b
       → same (drop from a) (drop from b) ≡ false
   stretch-fails t = stretch ∙ rw t
 
+-- of two things one
+module _ {A : Type 0} (x y : A) where
+  cond-not : (t : Bool) → cond (not t) x y ≡ cond t y x
+  cond-not true = refl
+  cond-not false = refl
+
 -- ---- one pair
 
 module _ (n : ℕ) (stands : List ℕ → Bool) (img : List ℕ) (a0 a1 read : ℕ)
@@ -83,15 +92,11 @@ module _ (n : ℕ) (stands : List ℕ → Bool) (img : List ℕ) (a0 a1 read : �
           let e = same-true (block img a0) (block img a1) t in
           absurd (clash (stands (block img a1)) stand1 (subst (λ (b : List ℕ). stands b ≡ false) e falls))
 
-  pub repair-if-different : repair-pair stands img a0 a1 read ≡ repaired img a0 a1 read
-  unfolding repair-pair repaired
-  repair-if-different = rw agree-if-equal
-
--- of two things one
-module _ {A : Type 0} (x y : A) where
-  pub cond-not : (t : Bool) → cond (not t) x y ≡ cond t y x
-  cond-not true = refl
-  cond-not false = refl
+  repair-if-different : repair-pair stands img a0 a1 read ≡ rewriting (repaired img a0 a1 read)
+  unfolding repair-pair rewriting repaired
+  repair-if-different =
+      rw agree-if-equal
+      (sym (cond-not (rewrite (cond (eqb read a0) a1 a0) (block img read)) [] (same (block img a0) (block img a1))))
 
 pub either-within : (t : Bool) (a b most : ℕ) → a ≤ most → b ≤ most → cond t a b ≤ most
 either-within true a b most ha hb = ha
@@ -120,7 +125,7 @@ module _ (s : Setting) (img : List ℕ) (v : View) (h : view s img ≡ given v) 
       )
 
   pub repair-by-copies : repair-steps s img v
-      ≡ repaired img (v .spt0) (v .spt1) (v .table) ++ repaired img (v .cpb0) (v .cpb1) (v .pointers)
+      ≡ rewriting (repaired img (v .spt0) (v .spt1) (v .table)) ++ rewriting (repaired img (v .cpb0) (v .cpb1) (v .pointers))
   unfolding repair-steps
   repair-by-copies =
       rw (

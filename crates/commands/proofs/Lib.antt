@@ -1,4 +1,6 @@
 pub mod Locating
 pub mod EqualCopies
 pub mod Asking
-pub mod CommandSteps
+pub mod CommandJobs
+pub mod StartLists
+pub mod Examples

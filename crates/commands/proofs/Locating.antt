@@ -1,7 +1,7 @@
 -- What a view that was given says of where the blocks are. Assumes nothing.
 use mathlib.Core.Path.{_≡_}
 use mathlib.Core.List.{List}
-use Prim.Native.Nat.{ℕ, _≤_}
+use Prim.Native.Nat.{ℕ}
 use native.Mathlib.Omega.{arith}
 use lib.ListN.{length}
 use Rattle.rules.specs.Bytes.{block, block-size}
@@ -13,9 +13,13 @@ use Rattle.rules.specs.declared.View.{View}
 use Rattle.rules.proofs.Invariant.{granule-holds-block}
 use Rattle.rules.proofs.SlotStarts.{length-fits}
 use Rattle.reading.proofs.Seen.{seen, blocks-inside, table-followed, pointers-inside, pointers-read-stand}
-use Rattle.walks.specs.Entries.{most-entries}
-use Rattle.slots.specs.Ends.{Ends}
-use Rattle.slots.specs.declared.LastSlots.{LastSlots}
+use Rattle.walks.specs.Entries.{HasEntries}
+use Rattle.slots.specs.RowsOf.{rows-of}
+use Rattle.slots.specs.declared.Rows.{Rows}
+use Rattle.slots.proofs.RowsOf.{count-of-rows}
+use Rattle.places.specs.StandingPointers.{StandingPointers}
+use Rattle.places.specs.PlacesOf.{places-of}
+use Rattle.places.specs.declared.Places.{Places}
 use Rattle.blocks.specs.Walked.{Readable}
 use Rattle.commands.specs.Asked.{Located}
 
@@ -37,25 +41,25 @@ located s img v h =
       short = length-fits (length img) (k .long);
     }
 
--- the table read has no more entries than there is room for
-pub few-entries : (img : List ℕ) (v : View) (t : List ℕ) (n : ℕ) → Located img v → t ≡ block img (v .table)
-    → n ≡ entry-count t
-    → n ≤ most-entries
-few-entries img v t n l et en = rw (en, et) (l .count-right)
-
 -- the table and the pointer block read
-pub readable : (img : List ℕ) (v : View) (t p : List ℕ) (n : ℕ) (last : LastSlots) → Located img v
-    → (t ≡ block img (v .table)) × (length t ≡ block-size)
-    → (p ≡ block img (v .pointers)) × (length p ≡ block-size)
-    → n ≡ entry-count t
-    → Ends t n last
-    → Readable t n last p
-readable img v t p n last l (et, lt) (ep, lp) en ends = record {
-  whole = lt;
-  few = few-entries img v t n l et en;
-  ends = ends;
-  pointers = record { whole = lp; stands = rw ep (l .stand) };
-}
+module _ (img : List ℕ) (v : View) (l : Located img v) where
+  pub has-entries : (t : List ℕ) (n : ℕ) → (t ≡ block img (v .table)) × (length t ≡ block-size) → n ≡ entry-count t
+      → HasEntries t n
+  has-entries t n (et, lt) en = record { whole = lt; few = rw (en, et) (l .count-right) }
+
+  pub stands : (p : List ℕ) → (p ≡ block img (v .pointers)) × (length p ≡ block-size) → StandingPointers p
+  stands p (ep, lp) = record { whole = lp; stands = rw ep (l .stand) }
+
+  pub readable : (t p : List ℕ) (r : Rows) (k : Places)
+      → (t ≡ block img (v .table)) × (length t ≡ block-size)
+      → (p ≡ block img (v .pointers)) × (length p ≡ block-size)
+      → r ≡ rows-of t
+      → k ≡ places-of p
+      → Readable t r p k
+  readable t p r k at-table at-pointers er ek = record {
+    table = record { table = has-entries t (r .count) at-table (count-of-rows t r er); rows = er };
+    pointers = record { block = stands p at-pointers; places = ek };
+  }
 
 -- the setting by the view is the one that the caller gave
 pub same-setting : (g a b : ℕ) (img : List ℕ) (v : View) → view (setting g a b) img ≡ given v

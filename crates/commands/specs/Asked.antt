@@ -1,9 +1,8 @@
--- What only the contracts of inner functions cite: refusals 6 and 7, and repair, by the copies alone. Assumes nothing.
+-- What only the contracts of inner functions cite: refusals 6 and 7 by the copies alone. Assumes nothing.
 use mathlib.Core.Path.{_≡_}
-use mathlib.Core.Bool.{Bool, true, cond, _&&_}
-use mathlib.Core.List.{List, []}
+use mathlib.Core.Bool.{Bool, true, _&&_}
+use mathlib.Core.List.{List}
 use Prim.Native.Nat.{ℕ, _+_, _≤_}
-use lib.Dec.{eqb}
 use lib.ListN.{length}
 use Rattle.rules.specs.Lists.{same}
 use Rattle.rules.specs.Bytes.{block, block-size}
@@ -11,8 +10,6 @@ use Rattle.rules.specs.Answers.{Answer, refused, given, unless}
 use Rattle.rules.specs.Table.{entries, entry-count}
 use Rattle.rules.specs.Pointers.{pointers-stand}
 use Rattle.rules.specs.Readers.{slot-there}
-use Rattle.rules.specs.Steps.{rewrite}
-use Rattle.rules.specs.declared.Step.{Step}
 use Rattle.rules.specs.declared.View.{View}
 use Rattle.walks.specs.Entries.{most-entries}
 use Rattle.commands.specs.declared.Outcome.{Outcome}
@@ -43,8 +40,3 @@ copies-equal img v =
 unfoldable pub slot-asked : List ℕ → View → ℕ → Answer (Unit {0})
 slot-asked img v k =
     unless 6 (copies-equal img v) (unless 7 (slot-there (entries (block img (v .table))) k) (given tt))
-
--- repair of a pair of which the copy at an address is read
-unfoldable pub repaired : List ℕ → ℕ → ℕ → ℕ → List Step
-repaired img a0 a1 read =
-    cond (same (block img a0) (block img a1)) [] (rewrite (cond (eqb read a0) a1 a0) (block img read))

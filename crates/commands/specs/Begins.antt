@@ -1,12 +1,17 @@
--- What starting a command returns: document 01's number and the job of no steps, or a job of the listed steps. Assumes
+-- What starting a command returns: document 01's number and the job of no steps, or the job of the listed steps. Assumes
 -- nothing.
 use mathlib.Core.Path.{_≡_}
 use mathlib.Core.List.{List}
 use Prim.Native.Nat.{ℕ}
-use Rattle.rules.specs.Answers.{Answer, refused, given}
+use Rattle.rules.specs.Answers.{Answer, refused, given, _>>=_}
+use Rattle.rules.specs.Numbers.{Setting}
+use Rattle.rules.specs.Copies.{view}
+use Rattle.rules.specs.Commands.{Command, job}
 use Rattle.rules.specs.declared.Step.{Step}
+use Rattle.rules.specs.declared.View.{View}
 use Rattle.jobs.specs.declared.Job.{Job}
 use Rattle.blocks.specs.Made.{Lists, no-job}
+use Rattle.commands.specs.JobFor.{job-for}
 use Rattle.commands.specs.declared.Begun.{Begun}
 use Rattle.commands.specs.declared.Outcome.the-variants.{Started, Refused}
 
@@ -16,6 +21,18 @@ refusal n = record { job = no-job; answer = Refused n }
 
 abbrev pub started : Job → Begun
 started j = record { job = j; answer = Started }
+
+unfoldable pub returned : Answer Job → Begun
+returned (refused n) = refusal n
+returned (given j) = started j
+
+-- once the view is known: the refusals of `job`, or the job
+unfoldable pub job-by : Setting → List ℕ → View → Command → Answer Job
+job-by s img v c = job s img v c >>= λ _. given (job-for (s .granule) img v c)
+
+-- a command started: every refusal in its order, or the job
+unfoldable pub start-result : Setting → List ℕ → Command → Begun
+start-result s img c = returned (view s img >>= λ v. job-by s img v c)
 
 -- refused with this number, or started with a job of these steps, for an image of this length and with this granule
 unfoldable pub begins : Begun → ℕ → ℕ → Answer (List Step) → Type 0

@@ -9,27 +9,27 @@ use blocks::packing;
 use blocks::pointers;
 use blocks::tables;
 use jobs::Job;
+use places::Places;
 use rules::SlotNo;
 use rules::View;
-use slots::LastSlots;
+use slots::Rows;
 ghost use mathlib.Core.Path.{_≡_};
-ghost use lib.ListN.{length, getD};
+ghost use lib.ListN.{getD};
 ghost use Rattle.rules.specs.Answers.{given};
 ghost use Rattle.rules.specs.Numbers.{setting};
-ghost use Rattle.rules.specs.Table.{rows, slot-starts};
-ghost use Rattle.rules.specs.Pointers.{places};
+ghost use Rattle.rules.specs.Table.{starts};
 ghost use Rattle.rules.specs.Copies.{view};
-ghost use Rattle.rules.specs.Commands.{giving, disable-steps, job, disable};
-ghost use Rattle.blocks.specs.Walked.{Readable, Notes};
-ghost use Rattle.blocks.specs.Made.{Lists};
-ghost use Rattle.commands.specs.Begins.{begins};
+ghost use Rattle.rules.specs.Commands.{disable};
+ghost use Rattle.blocks.specs.Walked.{Readable, places-giving};
+ghost use Rattle.blocks.specs.Made.{places-noted};
+ghost use Rattle.commands.specs.JobFor.{disable-job};
+ghost use Rattle.commands.specs.Begins.{returned, job-by};
 
 // Refusals 6 to 8, or the job of disable: a slot that no place gives is not in the boot order.
 pub fn disable_by(image: &[u8], v: View, granule: usize, slot: SlotNo) -> Begun
     requires { ⌜ view (setting granule (v .spt0) (v .spt1)) (now image) ≡ given v ⌝ }
     ensures { λ r. ⌜
-        begins r (length (now (image .entry))) granule
-        (job (setting granule (v .spt0) (v .spt1)) (now (image .entry)) v (disable (slot .0)))
+        r ≡ returned (job-by (setting granule (v .spt0) (v .spt1)) (now (image .entry)) v (disable (slot .0)))
         ⌝ }
 {
     let asked = refusals::ask_slot(image, v, slot);
@@ -40,19 +40,18 @@ pub fn disable_by(image: &[u8], v: View, granule: usize, slot: SlotNo) -> Begun
             let pointers_at = v.pointers;
             let t = fields::block_at(image, table_at);
             let p = fields::block_at(image, pointers_at);
-            let n = entries::entry_count(t);
-            let last = slots::last_slots(t, n);
-            let start = tables::slot_start(t, n, last, slot);
-            let free = places::free_place(p);
-            let found = pointers::giving(t, n, last, p, free, slot, start);
+            let rows = slots::rows_of(t);
+            let places = places::places_of(p);
+            let start = tables::slot_start(t, rows, slot);
+            let found = pointers::giving(t, rows, p, places, slot, start);
             if found.count == 0 {
                 return refusals::refuse(8);
             }
             refusals::begun(disable_job(
                 t,
-                n,
-                last,
+                rows,
                 p,
+                places,
                 image.len(),
                 granule,
                 v.cpb0 as u32,
@@ -69,9 +68,9 @@ pub fn disable_by(image: &[u8], v: View, granule: usize, slot: SlotNo) -> Begun
 // rewritten where a half-cleared start names another slot, else the places cleared.
 fn disable_job(
     t: &[u8],
-    n: usize,
-    last: LastSlots,
+    rows: Rows,
     p: &[u8],
+    places: Places,
     len: usize,
     granule: usize,
     cpb0: u32,
@@ -81,28 +80,25 @@ fn disable_job(
     found: Noted,
 ) -> Job
     requires { ⌜
-        (Readable (now t) n last (now p) × (start ≡ getD (slot-starts (rows n (now t))) (slot .0) 0))
-        × Notes found (giving (slot-starts (rows n (now t))) (slot .0) 0 (places (now p)))
+        (Readable (now t) rows (now p) places × (start ≡ getD (starts (now t)) (slot .0) 0))
+        × (found ≡ places-noted (places-giving (now t) (now p) (slot .0)))
         ⌝ }
     ensures { λ r. ⌜
-        Lists r len granule (disable-steps cpb0 cpb1 (slot-starts (rows n (now (t .entry)))) (now (p .entry)) (slot .0))
+        r ≡ disable-job len granule cpb0 cpb1 (starts (now (t .entry))) (now (p .entry)) (slot .0)
         ⌝ }
 {
-    if tables::half_cleared_names(t, n, start) {
-        let packed = packing::order_without(t, n, last, p, slot);
+    if tables::half_cleared_names(t, rows.count, start) {
+        let packed = packing::order_without(t, rows, p, places, slot);
         let block = packed.block;
         return made::pair_rewritten(len, granule, cpb0, cpb1, block);
     }
-    let numbers = found.places;
-    let offset = places::place_offset(p);
     made::into_places(
         len,
         granule,
-        offset as u32,
+        places.offset as u32,
         cpb1,
         cpb0,
-        numbers,
-        found.count,
+        found,
         bytes::bytes_of(0),
     )
 }

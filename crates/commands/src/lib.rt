@@ -9,10 +9,9 @@ use jobs::Job;
 use reading::Viewed;
 use rules::SlotNo;
 ghost use mathlib.Core.Path.{_≡_};
-ghost use lib.ListN.{length};
 ghost use Rattle.rules.specs.Numbers.{setting};
-ghost use Rattle.rules.specs.Commands.{enable, disable, rename, repair, start};
-ghost use Rattle.commands.specs.Begins.{begins};
+ghost use Rattle.rules.specs.Commands.{enable, disable, rename, repair};
+ghost use Rattle.commands.specs.Begins.{start-result};
 
 // What a start answers: started, or refused with a number.
 pub enum Outcome {
@@ -28,10 +27,7 @@ pub struct Begun {
 
 // Enable a slot: it comes first in the boot order.
 pub fn start_enable(image: &[u8], granule: usize, spt0: usize, spt1: usize, slot: SlotNo) -> Begun
-    ensures { λ r. ⌜
-        begins r (length (now (image .entry))) granule
-        (start (setting granule spt0 spt1) (now (image .entry)) (enable (slot .0)))
-        ⌝ }
+    ensures { λ r. ⌜ r ≡ start-result (setting granule spt0 spt1) (now (image .entry)) (enable (slot .0)) ⌝ }
 {
     let seen = reading::view(image, granule, spt0, spt1);
     match seen {
@@ -42,10 +38,7 @@ pub fn start_enable(image: &[u8], granule: usize, spt0: usize, spt1: usize, slot
 
 // Disable a slot: it leaves the boot order.
 pub fn start_disable(image: &[u8], granule: usize, spt0: usize, spt1: usize, slot: SlotNo) -> Begun
-    ensures { λ r. ⌜
-        begins r (length (now (image .entry))) granule
-        (start (setting granule spt0 spt1) (now (image .entry)) (disable (slot .0)))
-        ⌝ }
+    ensures { λ r. ⌜ r ≡ start-result (setting granule spt0 spt1) (now (image .entry)) (disable (slot .0)) ⌝ }
 {
     let seen = reading::view(image, granule, spt0, spt1);
     match seen {
@@ -64,8 +57,7 @@ pub fn start_rename(
     name: &[u8],
 ) -> Begun
     ensures { λ r. ⌜
-        begins r (length (now (image .entry))) granule
-        (start (setting granule spt0 spt1) (now (image .entry)) (rename (slot .0) (now (name .entry))))
+        r ≡ start-result (setting granule spt0 spt1) (now (image .entry)) (rename (slot .0) (now (name .entry)))
         ⌝ }
 {
     let seen = reading::view(image, granule, spt0, spt1);
@@ -77,9 +69,7 @@ pub fn start_rename(
 
 // Repair: where a pair disagrees, the copy not read becomes the copy read.
 pub fn start_repair(image: &[u8], granule: usize, spt0: usize, spt1: usize) -> Begun
-    ensures { λ r. ⌜
-        begins r (length (now (image .entry))) granule (start (setting granule spt0 spt1) (now (image .entry)) repair)
-        ⌝ }
+    ensures { λ r. ⌜ r ≡ start-result (setting granule spt0 spt1) (now (image .entry)) repair ⌝ }
 {
     let seen = reading::view(image, granule, spt0, spt1);
     match seen {

@@ -4,7 +4,7 @@ use super::refusals;
 use blocks::Rewriting;
 use rules::View;
 ghost use mathlib.Core.Path.{_≡_};
-ghost use mathlib.Core.Bool.{Bool, cond};
+ghost use mathlib.Core.Bool.{cond};
 ghost use Prim.Native.Nat.{_+_, _≤_};
 ghost use lib.Dec.{eqb};
 ghost use lib.ListN.{length};
@@ -13,10 +13,9 @@ ghost use Rattle.rules.specs.Bytes.{block, block-size};
 ghost use Rattle.rules.specs.Answers.{given};
 ghost use Rattle.rules.specs.Numbers.{setting};
 ghost use Rattle.rules.specs.Copies.{view};
-ghost use Rattle.rules.specs.Commands.{job, repair};
-ghost use Rattle.blocks.specs.Made.{rewriting};
-ghost use Rattle.commands.specs.Begins.{begins};
-ghost use Rattle.commands.specs.Asked.{repaired};
+ghost use Rattle.rules.specs.Commands.{repair};
+ghost use Rattle.commands.specs.JobFor.{repaired};
+ghost use Rattle.commands.specs.Begins.{returned, job-by};
 
 // A block is compared in eight stretches, with a return after each. Within a stretch there is none, so that its loop is
 // turned into vector code.
@@ -77,7 +76,7 @@ fn repaired(image: &[u8], a0: usize, a1: usize, read: usize) -> Rewriting
         ((a0 + block-size ≤ length (now image)) × (a1 + block-size ≤ length (now image)))
         × ((read + block-size ≤ length (now image)) × (length (now image) ≤ 0x10000000))
         ⌝ }
-    ensures { λ r. ⌜ rewriting r ≡ repaired (now (image .entry)) a0 a1 read ⌝ }
+    ensures { λ r. ⌜ r ≡ repaired (now (image .entry)) a0 a1 read ⌝ }
 {
     Rewriting {
         wanted: !same_blocks(image, a0, a1),
@@ -90,8 +89,7 @@ fn repaired(image: &[u8], a0: usize, a1: usize, read: usize) -> Rewriting
 pub fn repair_by(image: &[u8], v: View, granule: usize) -> Begun
     requires { ⌜ view (setting granule (v .spt0) (v .spt1)) (now image) ≡ given v ⌝ }
     ensures { λ r. ⌜
-        begins r (length (now (image .entry))) granule
-        (job (setting granule (v .spt0) (v .spt1)) (now (image .entry)) v repair)
+        r ≡ returned (job-by (setting granule (v .spt0) (v .spt1)) (now (image .entry)) v repair)
         ⌝ }
 {
     let tables = repaired(image, v.spt0, v.spt1, v.table);

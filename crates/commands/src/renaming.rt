@@ -10,26 +10,23 @@ use rules::SlotNo;
 use rules::View;
 ghost use mathlib.Core.Path.{_≡_};
 ghost use Prim.Native.Nat.{_≤_, _<_};
-ghost use mathlib.Core.Bool.{Bool, true, cond};
-ghost use mathlib.Core.List.{[]};
+ghost use mathlib.Core.Bool.{cond};
 ghost use lib.ListN.{length};
 ghost use Rattle.rules.specs.Bytes.{block-size, up-to-zero};
 ghost use Rattle.rules.specs.Answers.{given};
 ghost use Rattle.rules.specs.Numbers.{setting};
 ghost use Rattle.rules.specs.Table.{has-name};
-ghost use Rattle.rules.specs.Steps.{rewrite-pair};
 ghost use Rattle.rules.specs.Copies.{view};
-ghost use Rattle.rules.specs.Commands.{put-name, job, rename};
+ghost use Rattle.rules.specs.Commands.{put-name, rename};
 ghost use Rattle.walks.specs.Entries.{entry-at, most-entries};
-ghost use Rattle.blocks.specs.Made.{Lists};
-ghost use Rattle.commands.specs.Begins.{begins};
+ghost use Rattle.blocks.specs.Made.{no-steps, pair-rewritten};
+ghost use Rattle.commands.specs.Begins.{returned, job-by};
 
 // Refusals 6, 7, 9 and 10, or the job of rename.
 pub fn rename_by(image: &[u8], v: View, granule: usize, slot: SlotNo, name: &[u8]) -> Begun
     requires { ⌜ view (setting granule (v .spt0) (v .spt1)) (now image) ≡ given v ⌝ }
     ensures { λ r. ⌜
-        begins r (length (now (image .entry))) granule
-        (job (setting granule (v .spt0) (v .spt1)) (now (image .entry)) v (rename (slot .0) (now (name .entry))))
+        r ≡ returned (job-by (setting granule (v .spt0) (v .spt1)) (now (image .entry)) v (rename (slot .0) (now (name .entry))))
         ⌝ }
 {
     let asked = refusals::ask_slot(image, v, slot);
@@ -71,9 +68,9 @@ fn rename_job(
 ) -> Job
     requires { ⌜ ((length (now t) ≡ block-size) × (row .0 < most-entries)) × (length (now name) ≤ 16) ⌝ }
     ensures { λ r. ⌜
-        Lists r len granule
-        (cond (has-name (up-to-zero (now (name .entry))) (entry-at (now (t .entry)) (row .0))) []
-        (rewrite-pair spt0 spt1 (put-name (now (t .entry)) (row .0) (now (name .entry)))))
+        r ≡ cond (has-name (up-to-zero (now (name .entry))) (entry-at (now (t .entry)) (row .0)))
+        (no-steps len granule)
+        (pair-rewritten len granule spt0 spt1 (put-name (now (t .entry)) (row .0) (now (name .entry))))
         ⌝ }
 {
     if entries::has_name(t, row, name) {

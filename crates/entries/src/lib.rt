@@ -6,7 +6,7 @@ ghost use lib.ListN.{length};
 ghost use Rattle.rules.specs.Bytes.{block-size, up-to-zero};
 ghost use Rattle.rules.specs.Table.{entry-count, rows, has-name, named};
 ghost use Rattle.walks.specs.Find.{find};
-ghost use Rattle.walks.specs.Entries.{entry-at, most-entries};
+ghost use Rattle.walks.specs.Entries.{entry-at, most-entries, HasEntries};
 
 // Where the entries begin, and the length of one.
 const FIRST_ENTRY: usize = 0x20;
@@ -73,7 +73,7 @@ pub fn has_name(table: &[u8], e: EntryNo, wanted: &[u8]) -> bool
 
 // The number of the first of n entries that has the name; n where none has.
 pub fn find_named(table: &[u8], n: usize, wanted: &[u8]) -> EntryNo
-    requires { ⌜ (length (now table) ≡ block-size) × (n ≤ most-entries) ⌝ }
+    requires { ⌜ HasEntries (now table) n ⌝ }
     ensures found { λ r. ⌜ r .0 ≡ find (has-name (up-to-zero (now (wanted .entry)))) (rows n (now (table .entry))) ⌝ }
     ensures within { λ r. ⌜ r .0 ≤ n ⌝ }
 {
@@ -100,7 +100,7 @@ fn is_wanted(table: &[u8], e: EntryNo, wanted: &[u8]) -> bool
 
 // The start of the first of n entries that has the name; 0 where none has.
 pub fn named_start(table: &[u8], n: usize, wanted: &[u8]) -> u64
-    requires { ⌜ (length (now table) ≡ block-size) × (n ≤ most-entries) ⌝ }
+    requires { ⌜ HasEntries (now table) n ⌝ }
     ensures { λ r. ⌜ r ≡ named (up-to-zero (now (wanted .entry))) (rows n (now (table .entry))) .start ⌝ }
 {
     let e = find_named(table, n, wanted);

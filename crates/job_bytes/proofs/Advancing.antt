@@ -2,7 +2,7 @@
 use mathlib.Core.Path.{_≡_, refl, sym, ap, _∙_}
 use mathlib.Core.Bool.{true}
 use mathlib.Core.List.{List, _++_}
-use Prim.Native.Nat.{ℕ, _+_, _*_, _^_, _≤_, _<_}
+use Prim.Native.Nat.{ℕ, _+_, _*_, _-_, _^_, _≤_, _<_}
 use native.Mathlib.Omega.{arith}
 use lib.Dec.{eqb}
 use lib.ListN.{length, take, drop}
@@ -15,15 +15,17 @@ use Rattle.rules.proofs.Tests.{and-true}
 use Rattle.rules.proofs.Words.{length-bytes-of}
 use Rattle.rules.proofs.ByteLists.{field-by-front}
 use Rattle.fields.proofs.Stored.{length-put-at}
-use Rattle.jobs.specs.Jobs.{place-room, advanced, did-by-run, image-after-run}
+use Rattle.jobs.specs.Jobs.{place-room, advanced, returned, ran-by, did-by-run, image-after-run, steps-left, counted, counting}
+use Rattle.jobs.specs.Parts.{listed-length, countable}
+use Rattle.jobs.specs.declared.Job.{Job}
 use Rattle.jobs.specs.declared.Ran.{Ran}
+use Rattle.jobs.specs.declared.Did.{Did}
 use Rattle.jobs.specs.declared.Did.the-variants.{Steps, Refused}
-use Rattle.jobs.proofs.ListedSteps.{listed-bound}
-use Rattle.jobs.proofs.Running.{Arrays, refused-run, steps-run, steps-within}
+use Rattle.jobs.proofs.Running.{Arrays, remain, run-returned, run-countable}
 use Rattle.job_bytes.specs.Form.{len-at, granule-at, count-at, done-at, offset-at}
 use Rattle.job_bytes.specs.Form.{value-at, places-at, first-block-at, second-block-at}
 use Rattle.job_bytes.specs.Form.{job-size, plan-from, job-from, holds-job, decoded}
-use Rattle.job_bytes.specs.Running.{bytes-after, RanHere}
+use Rattle.job_bytes.specs.Running.{bytes-after, RanHere, CountedHere}
 use Rattle.job_bytes.proofs.Numbers.{field-read}
 use Rattle.job_bytes.proofs.Filling.{length-stretch}
 
@@ -137,44 +139,59 @@ decoded-further bs n holds small =
     let d = field done-at 8 bs + n in
     rw (still-holds bs holds d, further bs holds d small) (unfold job-from in refl)
 
--- ---- a run, by what it says it did
+-- ---- by what was done
 
-module _ (bs img img′ : List ℕ) (budget n : ℕ) (holds : holds-job bs ≡ true) where
-  pub sum-fits : (done : ℕ)
-      → done ≡ field done-at 8 bs
-      → done < 256 ^ 8
-      → Steps n ≡ did-by-run (job-from bs) budget img
-      → done + n < 256 ^ 8
-  unfolding job-from
-  sum-fits done e small h =
-      let within = steps-within (job-from bs) img (arrays-held bs (length-of-job bs holds)) budget n h in
-      omega (arith, within, listed-bound (job-from bs .plan))
-
-  pub refused-here : Refused n ≡ did-by-run (job-from bs) budget img
-      → img′ ≡ image-after-run (job-from bs) budget img
-      → RanHere budget bs img bs img′ (Refused n)
+module _ (bs : List ℕ) (holds : holds-job bs ≡ true) where
+  pub kept-here : (n : ℕ) → (bs ≡ bytes-after bs (Refused n)) × (decoded bs ≡ given (returned (job-from bs) (Refused n) .job))
   unfolding bytes-after decoded unless
-  refused-here h e = record {
-    did = h;
+  kept-here n = (refl, rw holds)
+
+  pub raised-here : (n done : ℕ) (bs′ : List ℕ)
+      → done ≡ field done-at 8 bs
+      → done + n < 256 ^ 8
+      → bs′ ≡ put-at done-at (bytes-of 8 (done + n)) bs
+      → (bs′ ≡ bytes-after bs (Steps n)) × (decoded bs′ ≡ given (returned (job-from bs) (Steps n) .job))
+  unfolding bytes-after
+  raised-here n done bs′ f small b =
+      (rw f at b, rw (b, f) (decoded-further bs n holds (rw f at small)))
+
+  abbrev j : Job
+  j = job-from bs
+
+  arrays : Arrays j
+  arrays = arrays-held bs (length-of-job bs holds)
+
+  -- a run, from what it says and leaves
+  pub run-fits : (img : List ℕ) (budget : ℕ) (did : Did) → did ≡ did-by-run j budget img
+      → countable (field done-at 8 bs) did
+  unfolding job-from
+  run-fits img budget did d = run-countable j img arrays budget did d
+
+  pub ran-here : (bs′ img img′ : List ℕ) (budget : ℕ) (did : Did)
+      → did ≡ did-by-run j budget img
+      → img′ ≡ image-after-run j budget img
+      → bs′ ≡ bytes-after bs did
+      → decoded bs′ ≡ given (returned j did .job)
+      → RanHere budget bs img bs′ img′ did
+  unfolding ran-by
+  ran-here bs′ img img′ budget did d e b h = record {
+    did = d;
     image = e;
-    bytes = refl;
-    holds = rw holds (ap (λ (r : Ran). given (r .job)) (refused-run (job-from bs) img budget n img′ h e .0));
+    bytes = b;
+    holds = h ∙ ap (λ (r : Ran). given (r .job)) (run-returned j img budget did img′ d e .0);
   }
 
-  pub went-here : (done : ℕ) (bs′ : List ℕ)
-      → done ≡ field done-at 8 bs
-      → done < 256 ^ 8
-      → Steps n ≡ did-by-run (job-from bs) budget img
-      → img′ ≡ image-after-run (job-from bs) budget img
-      → bs′ ≡ put-at done-at (bytes-of 8 (done + n)) bs
-      → RanHere budget bs img bs′ img′ (Steps n)
-  unfolding bytes-after
-  went-here done bs′ f small h e b = record {
-    did = h;
-    image = e;
-    bytes = rw f at b;
-    holds =
-        rw (b, f)
-        (decoded-further bs n holds (rw f at (sum-fits done f small h))
-        ∙ ap (λ (r : Ran). given (r .job)) (steps-run (job-from bs) img budget n img′ h e .0));
-  }
+  -- steps counted, from what is answered
+  pub counted-here : (bs′ : List ℕ) (n : ℕ) (did : Did)
+      → did ≡ counted (listed-length (j .plan) - j .done) n
+      → bs′ ≡ bytes-after bs did
+      → decoded bs′ ≡ given (returned j did .job)
+      → CountedHere n bs bs′ did
+  unfolding counting
+  counted-here bs′ n did d b h =
+      let left : listed-length (j .plan) - j .done ≡ steps-left j = remain j arrays (listed-length (j .plan) - j .done) refl in
+      record {
+        did = rw left at d;
+        bytes = b;
+        holds = h ∙ rw (d, left);
+      }

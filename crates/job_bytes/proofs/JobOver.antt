@@ -71,7 +71,7 @@ module _ (j : Job) (t : Typed j) (bs : List ℕ) (whole : length bs ≡ job-size
       numbers-by-front (min (j .plan .count) place-room) (front ++ rest) (j .places)
       (take-at front rest size length-front)
 
-  same-steps : Same j (job-over bs j)
+  pub same-steps : Same j (job-over bs j)
   unfolding job-over job-from steps-of listed
   same-steps = record {
     plan = refl;
@@ -100,7 +100,7 @@ module _ (j : Job) (t : Typed j) (bs : List ℕ) (whole : length bs ≡ job-size
       (length-held places-at size (omega arith))
       ∙ rw drop-drop))
 
-  typed-over : Typed (job-over bs j)
+  pub typed-over : Typed (job-over bs j)
   unfolding job-over job-from
   typed-over = record {
     len = t .len;

@@ -1,4 +1,4 @@
-// The job that lent bytes hold: whether they hold one, its run, what remains of it.
+// The job that lent bytes hold: whether they hold one, its run, steps carried out elsewhere, what remains of it.
 use jobs::Did;
 use jobs::Kind;
 use jobs::Next;
@@ -7,9 +7,11 @@ ghost use mathlib.Core.Path.{_≡_};
 ghost use mathlib.Core.Bool.{true};
 ghost use lib.ListN.{length};
 ghost use Rattle.rules.specs.Bytes.{field};
-ghost use Rattle.jobs.specs.Jobs.{did-by-run, image-after-run, steps-left, next-of};
-ghost use Rattle.job_bytes.specs.Form.{job-size, done-at, kind-numbered, plan-from, job-from, holds-job};
-ghost use Rattle.job_bytes.specs.Running.{RanHere};
+ghost use Rattle.rules.specs.Answers.{given};
+ghost use Rattle.jobs.specs.Jobs.{returned, did-by-run, image-after-run, steps-left, next-of};
+ghost use Rattle.jobs.specs.Parts.{countable};
+ghost use Rattle.job_bytes.specs.Form.{job-size, done-at, kind-numbered, plan-from, job-from, holds-job, decoded};
+ghost use Rattle.job_bytes.specs.Running.{bytes-after, RanHere, CountedHere};
 
 // The bytes have the length, and their kinds are kinds.
 pub fn is_job(bytes: &[u8]) -> bool
@@ -30,12 +32,33 @@ pub fn run(job: &mut [u8], image: &mut [u8], budget: usize) -> Did
         ⌝ }
 {
     let did = run_parts(job, image, budget);
+    store_done(job, did);
+    did
+}
+
+// Counts steps of it that were carried out elsewhere.
+pub fn advance(job: &mut [u8], n: usize) -> Did
+    requires { ⌜ holds-job (now job) ≡ true ⌝ }
+    ensures { λ r. ⌜ CountedHere n (now (job .entry)) (now (job .exit)) r ⌝ }
+{
+    let did = jobs::counted_of(plan_from(job), done_from(job), n);
+    store_done(job, did);
+    did
+}
+
+// The number of steps done, raised by what was done.
+fn store_done(job: &mut [u8], did: Did)
+    requires { ⌜ (holds-job (now job) ≡ true) × (countable (field done-at 8 (now job)) did) ⌝ }
+    ensures { λ _. ⌜
+        (now (job .exit) ≡ bytes-after (now (job .entry)) did)
+        × (decoded (now (job .exit)) ≡ given (returned (job-from (now (job .entry))) did .job))
+        ⌝ }
+{
     match did {
-        Did::Refused(number) => Did::Refused(number),
+        Did::Refused(_) => {}
         Did::Steps(n) => {
             let done = done_from(job);
             fields::stores::store64(job, super::DONE_AT, (done + n) as u64);
-            Did::Steps(n)
         }
     }
 }

@@ -2,9 +2,9 @@ pub mod Splits
 pub mod Erasing
 pub mod ProgramSteps
 pub mod RewriteSteps
-pub mod WholeRewrite
 pub mod PlaceNumbers
 pub mod PlaceSteps
 pub mod ListedSteps
 pub mod Running
+pub mod Counting
 pub mod Examples

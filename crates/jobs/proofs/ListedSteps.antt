@@ -1,10 +1,10 @@
 -- The parts of a job: their steps from one on. Assumes nothing.
-use mathlib.Core.Path.{_≡_, refl, sym, _∙_}
+use mathlib.Core.Path.{_≡_, refl, _∙_}
 use mathlib.Core.Bool.{true}
 use mathlib.Core.List.{List}
 use Prim.Native.Nat.{ℕ, _-_, _≤_, _<_, min}
 use native.Mathlib.Omega.{arith}
-use lib.ListN.{length, take, drop, length-append}
+use lib.ListN.{length, drop, length-append}
 use lib.Seq.{drop-nil}
 use Rattle.rules.proofs.Tests.{and-true}
 use Rattle.rules.specs.Lists.{all}
@@ -12,11 +12,12 @@ use Rattle.rules.specs.Steps.{steps}
 use Rattle.rules.specs.Cuts.{inside}
 use Rattle.rules.specs.declared.Step.{Step}
 use Rattle.jobs.specs.Jobs.{place-room, meant, part, listed, first-step}
-use Rattle.jobs.specs.Parts.{Sized, part-length, listed-length, part-inside, listed-inside}
+use Rattle.jobs.specs.Parts.{Sized, chosen, beyond, part-length, listed-length, part-inside, listed-inside}
+use Rattle.jobs.specs.declared.windows.Window.{Window}
 use Rattle.jobs.specs.declared.Kind.{Kind}
 use Rattle.jobs.specs.declared.Kind.the-variants.{Nothing, Rewrite, Places}
 use Rattle.jobs.specs.declared.Plan.{Plan}
-use Rattle.jobs.proofs.Splits.{all-split, steps-split, first-left, first-right}
+use Rattle.jobs.proofs.Splits.{all-split, steps-joined, first-left, first-right}
 use Rattle.jobs.proofs.RewriteSteps.{length-rewrite, inside-rewrite}
 use Rattle.jobs.proofs.PlaceNumbers.{length-numbers}
 use Rattle.jobs.proofs.PlaceSteps.{length-places, inside-places}
@@ -88,25 +89,17 @@ module _ (p : Plan) (b0 b1 ks v : List ℕ) (sized0 : Sized b0 ks v) (sized1 : S
             (p .second),
       )
 
-  -- at most n of the steps from one on: the first part's, then the second's
-  pub steps-listed : (n k : ℕ) (img : List ℕ)
-      → steps (p .granule) (take n (drop k (listed p b0 b1 ks v))) img
-      ≡ steps (p .granule) (take (n - (first-length p - k)) (drop (k - first-length p) (second-part p b1 ks v)))
-      (steps (p .granule) (take n (drop k (first-part p b0 ks v))) img)
-  unfolding listed
-  steps-listed n k img = steps-split (p .granule) n k (first-part p b0 ks v) (second-part p b1 ks v) img
-      ∙ rw length-first
-
-  -- the same, image by image
-  pub listed-done : (n k size skip m : ℕ) (img half after : List ℕ)
+  -- those in a window, image by image: the first part's, then the second's
+  pub listed-done : (w rest : Window) (size : ℕ) (img half after : List ℕ)
       → size ≡ first-length p
-      → skip ≡ k - size
-      → m ≡ n - (size - k)
-      → half ≡ steps (p .granule) (take n (drop k (first-part p b0 ks v))) img
-      → after ≡ steps (p .granule) (take m (drop skip (second-part p b1 ks v))) half
-      → after ≡ steps (p .granule) (take n (drop k (listed p b0 b1 ks v))) img
-  listed-done n k size skip m img half after ez es em eh ea =
-      ea ∙ rw (es, em, ez, eh) (sym (steps-listed n k img))
+      → rest ≡ beyond size w
+      → half ≡ steps (p .granule) (chosen w (first-part p b0 ks v)) img
+      → after ≡ steps (p .granule) (chosen rest (second-part p b1 ks v)) half
+      → after ≡ steps (p .granule) (chosen w (listed p b0 b1 ks v)) img
+  unfolding listed
+  listed-done w rest size img half after ez er =
+      steps-joined (p .granule) w rest (first-part p b0 ks v) (second-part p b1 ks v) img half after
+      (er ∙ rw (ez, length-first))
 
   pub next-in-first : (k : ℕ) → k < first-length p → first-step (drop k (listed p b0 b1 ks v)) ≡ first-step (drop k
       (first-part p b0 ks v))

@@ -5,7 +5,7 @@ use mathlib.Core.List.{List, [], _∷_}
 use Prim.Native.Nat.{ℕ, zero, suc, _+_, _-_, _*_, _/_, _%_, _≤_, _<_}
 use native.Mathlib.Omega.{arith}
 use lib.Dec.{eqb, leb}
-use lib.ListN.{length, getD, take, drop, length-append, drop-of-length-le}
+use lib.ListN.{length, getD, drop, length-append, drop-of-length-le}
 use lib.Seq.{drop-nil, take-nil}
 use borrow.Author.Tests.{eqb-true, leb-true, leb-false}
 use Rattle.rules.proofs.Tests.{and-true}
@@ -15,7 +15,8 @@ use Rattle.rules.specs.Steps.{steps, programs}
 use Rattle.rules.specs.Commands.{into-place, into-places}
 use Rattle.rules.specs.Cuts.{inside}
 use Rattle.jobs.specs.Jobs.{numbers-from, first-step}
-use Rattle.jobs.specs.Parts.{programs-inside, places-inside}
+use Rattle.jobs.specs.Parts.{chosen, beyond, programs-inside, places-inside}
+use Rattle.jobs.specs.declared.windows.Window.{Window}
 use Rattle.jobs.specs.declared.Next.the-variants.{Finished}
 use Rattle.jobs.proofs.Splits.{all-split, steps-split, first-left, first-right}
 use Rattle.jobs.proofs.PlaceNumbers.{length-numbers, number-at}
@@ -57,31 +58,23 @@ module _ (a offset : ℕ) (v : List ℕ) (eight : length v ≡ 8) where
         inside-places g len (k - 8) ks,
       )
 
-  -- at most n of the steps from one on: those of one place, then those of the others
-  pub steps-places : (g n k p : ℕ) (ks img : List ℕ)
-      → steps g (take n (drop k (into-places a offset v (p ∷ ks)))) img
-      ≡ steps g (take (n - (8 - k)) (drop (k - 8) (into-places a offset v ks)))
-      (steps g (take n (drop k (programs (a + (offset + 8 * p)) v))) img)
-  unfolding into-places into-place
-  steps-places g n k p ks img =
-      steps-split g n k (programs (a + (offset + 8 * p)) v) (into-places a offset v ks) img ∙ rw (length-place p)
-
-  -- the same, image by image, of a row that begins with that place
-  pub places-step : (g n k m skip p address : ℕ) (ks ls img after : List ℕ)
+  -- those in a window, of a row that begins with a place, image by image
+  pub places-step : (g : ℕ) (w rest : Window) (p address : ℕ) (ks ls img after : List ℕ)
       → address ≡ a + (offset + 8 * p)
       → ls ≡ p ∷ ks
-      → m ≡ n - (8 - k)
-      → skip ≡ k - 8
-      → after ≡ steps g (take n (drop k (programs address v))) img
-      → steps g (take n (drop k (into-places a offset v ls))) img
-      ≡ steps g (take m (drop skip (into-places a offset v ks))) after
-  places-step g n k m skip p address ks ls img after ea el em es ei =
-      rw (em, es, ei, ea, el) (steps-places g n k p ks img)
+      → rest ≡ beyond 8 w
+      → after ≡ steps g (chosen w (programs address v)) img
+      → steps g (chosen w (into-places a offset v ls)) img
+      ≡ steps g (chosen rest (into-places a offset v ks)) after
+  unfolding into-places into-place
+  places-step g w rest p address ks ls img after ea el er ei =
+      rw (er, ei, ea, el) (steps-split g w (programs (a + (offset + 8 * p)) v) (into-places a offset v ks) img
+      ∙ rw (length-place p))
 
-  pub steps-none : (g n k : ℕ) (ls img : List ℕ) → ls ≡ [] → steps g (take n (drop k
-      (into-places a offset v ls))) img ≡ img
-  unfolding into-places steps
-  steps-none g n k ls img el = rw (el, drop-nil k, take-nil n)
+  pub steps-none : (g : ℕ) (w : Window) (ls img : List ℕ) → ls ≡ [] → steps g (chosen w (into-places a offset v ls)) img
+      ≡ img
+  unfolding into-places steps chosen
+  steps-none g w ls img el = rw (el, drop-nil (w .from), take-nil (w .n))
 
   pub next-place : (k : ℕ) (ks : List ℕ) → k < 8 * length ks
       → first-step (drop k (into-places a offset v ks))

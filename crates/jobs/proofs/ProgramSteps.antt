@@ -19,7 +19,8 @@ use Rattle.rules.specs.Steps.{step, steps, programmed, programs}
 use Rattle.rules.specs.Cuts.{inside}
 use Rattle.rules.specs.declared.Step.the-variants.{Program}
 use Rattle.jobs.specs.Jobs.{first-step}
-use Rattle.jobs.specs.Parts.{programs-inside}
+use Rattle.jobs.specs.Parts.{chosen, programs-inside}
+use Rattle.jobs.specs.declared.windows.Window.{Window}
 use Rattle.jobs.proofs.Splits.{take-least}
 use Rattle.jobs.specs.declared.Next.the-variants.{Is, Finished}
 
@@ -67,20 +68,22 @@ pub programs-part : (n k a : ℕ) (bs : List ℕ)
     → take n (drop k (programs a bs)) ≡ programs (a + k) (take n (drop k bs))
 programs-part n k a bs = rw (drop-programs k a bs) (take-programs n (a + k) (drop k bs))
 
-module _ (n k a : ℕ) (bs : List ℕ) where
-  pub programs-chosen : (m : ℕ) → m ≡ min n (length bs - k)
-      → programs (a + k) (take (k + m - k) (drop k bs)) ≡ take n (drop k (programs a bs))
+module _ (w : Window) (a : ℕ) (bs : List ℕ) where
+  pub programs-chosen : (m : ℕ) → m ≡ min (w .n) (length bs - w .from)
+      → programs (a + w .from) (take (w .from + m - w .from) (drop (w .from) bs)) ≡ chosen w (programs a bs)
+  unfolding chosen
   programs-chosen m e =
-      let same-count : k + m - k ≡ min n (length (drop k bs)) = rw length-drop (omega arith) in
-      rw (same-count, take-least n (drop k bs)) (sym (programs-part n k a bs))
+      let same-count : w .from + m - w .from ≡ min (w .n) (length (drop (w .from) bs)) = rw length-drop (omega arith) in
+      rw (same-count, take-least (w .n) (drop (w .from) bs)) (sym (programs-part (w .n) (w .from) a bs))
 
-  pub all-chosen : k ≡ 0 → length bs ≤ n → take n (drop k (programs a bs)) ≡ programs a bs
-  all-chosen first enough = rw first (take-all n (programs a bs) (rw length-programs enough))
+  pub all-chosen : w .from ≡ 0 → length bs ≤ w .n → chosen w (programs a bs) ≡ programs a bs
+  unfolding chosen
+  all-chosen first enough = rw first (take-all (w .n) (programs a bs) (rw length-programs enough))
 
-  pub no-programs : (g : ℕ) (img : List ℕ) → length bs ≤ k → img ≡ steps g (take n (drop k (programs a bs))) img
-  unfolding steps
+  pub no-programs : (g : ℕ) (img : List ℕ) → length bs ≤ w .from → img ≡ steps g (chosen w (programs a bs)) img
+  unfolding steps chosen
   no-programs g img h =
-      rw (drop-of-length-le (programs a bs) {i = k} (rw length-programs h), take-nil)
+      rw (drop-of-length-le (programs a bs) {i = w .from} (rw length-programs h), take-nil)
 
 -- ---- eight bytes, four and then four
 

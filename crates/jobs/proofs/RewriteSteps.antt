@@ -1,5 +1,5 @@
 -- A block rewritten: its steps from one on. Assumes nothing.
-use mathlib.Core.Path.{_≡_, refl, ap, sym, _∙_}
+use mathlib.Core.Path.{_≡_, refl, ap, _∙_}
 use mathlib.Core.Bool.{true, false, _&&_, _||_}
 use mathlib.Core.Logic.{_⊎_, inl, inr}
 use mathlib.Core.List.{List, [], _∷_, _++_}
@@ -17,8 +17,9 @@ use Rattle.rules.specs.Steps.{step, steps, wiped, programs, rewrite}
 use Rattle.rules.specs.Cuts.{inside}
 use Rattle.rules.specs.declared.Step.the-variants.{Erase}
 use Rattle.jobs.specs.Jobs.{first-step}
-use Rattle.jobs.specs.Parts.{rest-size, erase-inside, programs-inside, rewrite-inside}
-use Rattle.jobs.proofs.Splits.{all-split, steps-split, first-left, first-right}
+use Rattle.jobs.specs.Parts.{chosen, beyond, rest-size, erase-inside, programs-inside, rewrite-inside}
+use Rattle.jobs.specs.declared.windows.Window.{Window}
+use Rattle.jobs.proofs.Splits.{all-split, steps-joined, first-left, first-right}
 use Rattle.jobs.proofs.ProgramSteps.{length-programs, inside-programs}
 
 pub inside-erase : (g len a k : ℕ) → all (inside g len) (drop k (Erase a ∷ [])) ≡ erase-inside g len a k
@@ -28,26 +29,26 @@ inside-erase g len a (suc k) =
     let e : drop (suc k) (Erase a ∷ []) ≡ [] = drop-of-length-le (Erase a ∷ []) {i = suc k} (omega arith) in
     rw (le-leb 1 (suc k) (omega arith), e)
 
--- ---- whether the erase is among at most n steps from one on
+-- ---- whether the erase is in a window
 
-module _ (g n k a : ℕ) (img : List ℕ) where
-  pub no-erase : ltb 0 k || eqb n 0 ≡ true → img ≡ steps g (take n (drop k (Erase a ∷ []))) img
-  unfolding steps
-  no-erase t = from (or-true (ltb 0 k) (eqb n 0) t)
+module _ (g a : ℕ) (w : Window) (img : List ℕ) where
+  pub no-erase : ltb 0 (w .from) || eqb (w .n) 0 ≡ true → img ≡ steps g (chosen w (Erase a ∷ [])) img
+  unfolding steps chosen
+  no-erase t = from (or-true (ltb 0 (w .from)) (eqb (w .n) 0) t)
     where
-      from : (ltb 0 k ≡ true) ⊎ (eqb n 0 ≡ true) → img ≡ steps g (take n (drop k (Erase a ∷ []))) img
+      from : (ltb 0 (w .from) ≡ true) ⊎ (eqb (w .n) 0 ≡ true) → img ≡ steps g (take (w .n) (drop (w .from) (Erase a ∷ []))) img
       from (inl u) =
-          let h = ltb-true 0 k u in
-          rw (drop-of-length-le (Erase a ∷ []) {i = k} (omega arith), take-nil)
-      from (inr u) = rw (eqb-true n 0 u)
+          let h = ltb-true 0 (w .from) u in
+          rw (drop-of-length-le (Erase a ∷ []) {i = w .from} (omega arith), take-nil)
+      from (inr u) = rw (eqb-true (w .n) 0 u)
 
-  pub one-erase : ltb 0 k || eqb n 0 ≡ false → wiped a g img ≡ steps g (take n (drop k (Erase a ∷ []))) img
-  unfolding steps step
+  pub one-erase : ltb 0 (w .from) || eqb (w .n) 0 ≡ false → wiped a g img ≡ steps g (chosen w (Erase a ∷ [])) img
+  unfolding steps step chosen
   one-erase t =
-      let (u, w) = or-false (ltb 0 k) (eqb n 0) t in
-      let h = ltb-false 0 k u in
-      let e : k ≡ 0 = omega arith in
-      rw e (some n (eqb-false n 0 w))
+      let (u, v) = or-false (ltb 0 (w .from)) (eqb (w .n) 0) t in
+      let h = ltb-false 0 (w .from) u in
+      let e : w .from ≡ 0 = omega arith in
+      rw e (some (w .n) (eqb-false (w .n) 0 v))
     where
       some : (m : ℕ) → (m ≡ 0 → ⊥) → wiped a g img ≡ steps g (take m (Erase a ∷ [])) img
       some zero z = absurd (z refl)
@@ -74,11 +75,6 @@ rewrite-parts g len a k t =
     let magic = programs-inside len a 4 (k - 1 - rest-size) in
     let (u, w) = and-true (erase-inside g len a k) (rest && magic) t in
     (u, and-true rest magic w)
-
--- of m steps those left for the magic: less the bytes before it that are not done
-pub left-for-magic : (m skip used last : ℕ) {before : ℕ} → used ≡ before - skip → last ≡ m - used → before ≡ rest-size
-    → last ≡ m - (rest-size - skip)
-left-for-magic m skip used last eu el all = el ∙ rw (eu, all)
 
 module _ (a : ℕ) (b : List ℕ) (sized : length b ≡ block-size) where
   length-rest : length (drop 4 b) ≡ rest-size
@@ -110,32 +106,23 @@ module _ (a : ℕ) (b : List ℕ) (sized : length b ≡ block-size) where
         length-magic,
       )
 
-  -- at most n of the steps from one on: the erase, the bytes after the magic, the magic
-  pub steps-rewrite : (g n k : ℕ) (img : List ℕ)
-      → steps g (take n (drop k (rewrite a b))) img
-      ≡ steps g (take (n - (1 - k) - (rest-size - (k - 1))) (drop (k - 1 - rest-size) (programs a (take 4 b))))
-      (steps g (take (n - (1 - k)) (drop (k - 1) (programs (a + 4) (drop 4 b))))
-      (steps g (take n (drop k (Erase a ∷ []))) img))
+  -- those in a window, image by image: the erase, the bytes after the magic, the magic
+  pub rewrite-done : (g : ℕ) (w rest last : Window) (bytes img erased filled after : List ℕ)
+      → bytes ≡ drop 4 b
+      → rest ≡ beyond 1 w
+      → last ≡ beyond (length bytes) rest
+      → erased ≡ steps g (chosen w (Erase a ∷ [])) img
+      → filled ≡ steps g (chosen rest (programs (a + 4) bytes)) erased
+      → after ≡ steps g (chosen last (programs a (take 4 b))) filled
+      → after ≡ steps g (chosen w (rewrite a b)) img
   unfolding rewrite
-  steps-rewrite g n k img =
-      steps-split g n k (Erase a ∷ []) (programs (a + 4) (drop 4 b) ++ programs a (take 4 b)) img
-      ∙ steps-split g (n - (1 - k)) (k - 1) (programs (a + 4) (drop 4 b)) (programs a (take 4 b))
-      (steps g (take n (drop k (Erase a ∷ []))) img)
-      ∙ rw length-programs-rest
-
-  -- the same, image by image
-  pub rewrite-done : (g n k skip m skip-magic last : ℕ) (rest img erased filled after : List ℕ)
-      → rest ≡ drop 4 b
-      → skip ≡ k - 1
-      → m ≡ n - (1 - k)
-      → skip-magic ≡ skip - rest-size
-      → last ≡ m - (rest-size - skip)
-      → erased ≡ steps g (take n (drop k (Erase a ∷ []))) img
-      → filled ≡ steps g (take m (drop skip (programs (a + 4) rest))) erased
-      → after ≡ steps g (take last (drop skip-magic (programs a (take 4 b)))) filled
-      → after ≡ steps g (take n (drop k (rewrite a b))) img
-  rewrite-done g n k skip m skip-magic last rest img erased filled after er es em eg el ee ef ea =
-      ea ∙ rw (eg, el, ef, er, es, em, ee) (sym (steps-rewrite g n k img))
+  rewrite-done g w rest last bytes img erased filled after eb er el ee ef ea =
+      let upward = programs (a + 4) (drop 4 b) in
+      let magic = programs a (take 4 b) in
+      let programmed : after ≡ steps g (chosen rest (upward ++ magic)) erased =
+      steps-joined g rest last upward magic erased filled after
+      (el ∙ rw (eb, length-programs (a + 4) (drop 4 b))) (ef ∙ rw eb) ea in
+      steps-joined g w rest (Erase a ∷ []) (upward ++ magic) img erased after er ee programmed
 
   pub next-rest : (k : ℕ) → 0 < k → k - 1 < rest-size
       → first-step (drop k (rewrite a b)) ≡ first-step (drop (k - 1) (programs (a + 4) (drop 4 b)))

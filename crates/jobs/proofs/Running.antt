@@ -13,13 +13,13 @@ use Rattle.rules.specs.Lists.{all}
 use Rattle.rules.specs.Answers.{Answer, refused, given, unless}
 use Rattle.rules.specs.Steps.{steps}
 use Rattle.rules.specs.Cuts.{Progress, run, inside, may-run}
-use Rattle.jobs.specs.Jobs.{listed, steps-of, under-way, admitted, steps-done, advanced, ran, progress-after, did-by-run, image-after-run, steps-left}
-use Rattle.jobs.specs.Parts.{Sized, listed-length, listed-inside}
+use Rattle.jobs.specs.Jobs.{listed, steps-of, under-way, admitted, steps-done, advanced, returned, ran, progress-after, ran-by, did-by-run, image-after-run, steps-left}
+use Rattle.jobs.specs.Parts.{Sized, listed-length, countable, listed-inside}
 use Rattle.jobs.specs.declared.Job.{Job}
-use Rattle.jobs.specs.declared.Ran.{Ran}
+use Rattle.jobs.specs.declared.Did.{Did}
 use Rattle.jobs.specs.declared.Did.the-variants.{Steps, Refused}
 use Rattle.jobs.proofs.Splits.{drop-least}
-use Rattle.jobs.proofs.ListedSteps.{length-listed, inside-listed}
+use Rattle.jobs.proofs.ListedSteps.{listed-bound, length-listed, inside-listed}
 
 -- a test that two things do not both hold
 pub one-fails : (a b : Bool) → not a || not b ≡ true → a && b ≡ false
@@ -122,49 +122,30 @@ module _ (j : Job) (img : List ℕ) where
       tests true false = not-so 12
       tests true true = so
 
-  module _ (budget n : ℕ) (after : List ℕ) where
-    pub refused-run : Refused n ≡ did-by-run j budget img
-        → after ≡ image-after-run j budget img
-        → (_≡_ {A = Ran} (record { job = j; did = Refused n }) (ran j budget (admitted j img)))
-        × (under-way j after ≡ progress-after j budget img (admitted j img))
-    unfolding ran progress-after under-way
-    refused-run =
-        admitted-or-not
-        (λ (answer : Answer Progress).
-        Refused n ≡ ran j budget answer .did
-        → after ≡ progress-after j budget img answer .image
-        → (_≡_ {A = Ran} (record { job = j; did = Refused n }) (ran j budget answer))
-        × (under-way j after ≡ progress-after j budget img answer))
-        (λ m d e. let same : n ≡ m = cc in (rw same, rw e))
-        (λ d e. absurd (refused-steps n (steps-done budget (under-way j img)) d))
-
-    pub steps-run : Steps n ≡ did-by-run j budget img
-        → after ≡ image-after-run j budget img
-        → (_≡_ {A = Ran} (record { job = advanced j n; did = Steps n }) (ran j budget (admitted j img)))
-        × (under-way (advanced j n) after ≡ progress-after j budget img (admitted j img))
-    unfolding ran progress-after under-way run steps-done
-    steps-run =
-        admitted-or-not
-        (λ (answer : Answer Progress).
-        Steps n ≡ ran j budget answer .did
-        → after ≡ progress-after j budget img answer .image
-        → (_≡_ {A = Ran} (record { job = advanced j n; did = Steps n }) (ran j budget answer))
-        × (under-way (advanced j n) after ≡ progress-after j budget img answer))
-        (λ m d e. absurd (refused-steps m n (sym d)))
-        (λ d e.
-        let count : n ≡ length (take budget (steps-of j)) = cc in
-        let k : n ≡ min budget (length (steps-of j)) = count ∙ length-take budget (steps-of j) in
-        (rw (← count), rw (e, steps-advanced j n, k, drop-least budget (steps-of j))))
+  pub run-returned : (budget : ℕ) (did : Did) (after : List ℕ)
+      → did ≡ did-by-run j budget img
+      → after ≡ image-after-run j budget img
+      → ran-by j budget img (returned j did) after
+  unfolding ran-by ran progress-after under-way run steps-done
+  run-returned budget did after d e =
+      rw (d, e)
+      (admitted-or-not
+      (λ (answer : Answer Progress).
+      (returned j (ran j budget answer .did) ≡ ran j budget answer)
+      × (under-way (returned j (ran j budget answer .did) .job) (progress-after j budget img answer .image)
+      ≡ progress-after j budget img answer))
+      (λ n. (refl, refl))
+      (refl, rw (steps-advanced j (length (take budget (steps-of j))), length-take budget (steps-of j), drop-least budget (steps-of j))))
 
   -- no more steps are done than there are
-  pub steps-within : (arrays : Arrays j) (budget n : ℕ) → Steps n ≡ did-by-run j budget img
-      → n ≤ listed-length (j .plan) - j .done
-  unfolding ran under-way steps-done
-  steps-within arrays budget n =
+  pub run-countable : (arrays : Arrays j) (budget : ℕ) (did : Did) → did ≡ did-by-run j budget img
+      → countable (j .done) did
+  unfolding ran under-way steps-done countable
+  run-countable arrays budget did =
       admitted-or-not
-      (λ (answer : Answer Progress). Steps n ≡ ran j budget answer .did → n ≤ listed-length (j .plan) - j .done)
-      (λ m d. absurd (refused-steps m n (sym d)))
-      (λ d.
+      (λ (answer : Answer Progress). did ≡ ran j budget answer .did → countable (j .done) did)
+      (λ m d n e. absurd (refused-steps m n (sym d ∙ e)))
+      (λ d n e.
       let count : n ≡ length (take budget (steps-of j)) = cc in
       let k : n ≡ min budget (length (steps-of j)) = count ∙ length-take budget (steps-of j) in
-      omega (arith, k, length-steps j arrays))
+      omega (arith, k, length-steps j arrays, listed-bound (j .plan)))

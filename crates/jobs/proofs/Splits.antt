@@ -1,5 +1,5 @@
--- Two lists of steps joined: at most so many of the steps from one on, part by part. Assumes nothing.
-use mathlib.Core.Path.{_≡_, refl, ap, sym}
+-- Two lists of steps joined: the steps in a window, part by part. Assumes nothing.
+use mathlib.Core.Path.{_≡_, refl, ap, sym, _∙_}
 use mathlib.Core.Bool.{Bool, _&&_}
 use mathlib.Core.List.{List, [], _∷_, _++_}
 use Prim.Native.Nat.{ℕ, zero, suc, _-_, _≤_, _<_, min}
@@ -16,6 +16,8 @@ use Rattle.rules.specs.Lists.{all}
 use Rattle.rules.specs.Steps.{steps}
 use Rattle.rules.specs.declared.Step.{Step}
 use Rattle.jobs.specs.Jobs.{first-step}
+use Rattle.jobs.specs.Parts.{chosen, beyond}
+use Rattle.jobs.specs.declared.windows.Window.{Window}
 
 module _ {A : Type 0} where
   pub drop-append : (k : ℕ) (xs ys : List A) → drop k (xs ++ ys) ≡ drop k xs ++ drop (k - length xs) ys
@@ -63,12 +65,23 @@ module _ {A : Type 0} where
     all-split k xs ys = rw (drop-append k xs ys) (all-append (drop k xs) (drop (k - length xs) ys))
 
 module _ (g : ℕ) where
-  pub steps-split : (n k : ℕ) (xs ys : List Step) (img : List ℕ)
-      → steps g (take n (drop k (xs ++ ys))) img
-      ≡ steps g (take (n - (length xs - k)) (drop (k - length xs) ys)) (steps g (take n (drop k xs)) img)
-  steps-split n k xs ys img =
+  pub steps-split : (w : Window) (xs ys : List Step) (img : List ℕ)
+      → steps g (chosen w (xs ++ ys)) img
+      ≡ steps g (chosen (beyond (length xs) w) ys) (steps g (chosen w xs) img)
+  unfolding chosen beyond
+  steps-split w xs ys img =
+      let n = w .n in
+      let k = w .from in
       rw (drop-append k xs ys, take-append n (drop k xs) (drop (k - length xs) ys), length-drop k xs)
       (steps-append g (take n (drop k xs)) (take (n - (length xs - k)) (drop (k - length xs) ys)) img)
+
+  -- the same, image by image
+  pub steps-joined : (w rest : Window) (xs ys : List Step) (img half after : List ℕ)
+      → rest ≡ beyond (length xs) w
+      → half ≡ steps g (chosen w xs) img
+      → after ≡ steps g (chosen rest ys) half
+      → after ≡ steps g (chosen w (xs ++ ys)) img
+  steps-joined w rest xs ys img half after er eh ea = ea ∙ rw (er, eh) (sym (steps-split w xs ys img))
 
 pub first-left : (k : ℕ) (xs ys : List Step) → k < length xs
     → first-step (drop k (xs ++ ys)) ≡ first-step (drop k xs)

@@ -1,4 +1,5 @@
 -- The list of steps that a job value denotes, and what a run of it answers and leaves. Assumes nothing.
+use mathlib.Core.Path.{_≡_}
 use mathlib.Core.List.{List, [], _∷_, _++_}
 use Prim.Native.Nat.{ℕ, zero, suc, _+_, min}
 use lib.ListN.{take, drop, length}
@@ -72,15 +73,26 @@ advanced j n = record {
   value = j .value;
 }
 
--- what a run returns: on a refusal the job stays
+-- what is returned, by what was done: on a refusal the job stays
+abbrev pub returned : Job → Did → Ran
+returned j (Refused n) = record { job = j; did = Refused n }
+returned j (Steps n) = record { job = advanced j n; did = Steps n }
+
+-- what a run returns
 unfoldable pub ran : Job → ℕ → Answer Progress → Ran
-ran j budget (refused n) = record { job = j; did = Refused n }
-ran j budget (given p) = record { job = advanced j (steps-done budget p); did = Steps (steps-done budget p) }
+ran j budget (refused n) = returned j (Refused n)
+ran j budget (given p) = returned j (Steps (steps-done budget p))
 
 -- the image after a run and the steps that the returned job denotes: on a refusal both stay
 unfoldable pub progress-after : Job → ℕ → List ℕ → Answer Progress → Progress
 progress-after j budget img (refused n) = under-way j img
 progress-after j budget img (given p) = run (j .plan .granule) budget p
+
+-- a run of a job on an image returns r and leaves the image img′
+unfoldable pub ran-by : Job → ℕ → List ℕ → Ran → List ℕ → Type 0
+ran-by j budget img r img′ =
+    (r ≡ ran j budget (admitted j img))
+    × (under-way (r .job) img′ ≡ progress-after j budget img (admitted j img))
 
 -- ---- a run of a job whose arrays are lent
 
@@ -107,3 +119,14 @@ first-step (s ∷ ss) = Is s
 
 unfoldable pub next-of : Job → Next
 next-of j = first-step (steps-of j)
+
+-- ---- steps carried out elsewhere
+
+-- what is answered to n of them, of so many steps that remain: refused 11 where none do, else that number or all
+unfoldable pub counted : ℕ → ℕ → Did
+counted zero n = Refused 11
+counted (suc left) n = Steps (min n (suc left))
+
+-- what counting them returns
+unfoldable pub counting : Job → ℕ → Ran
+counting j n = returned j (counted (steps-left j) n)

@@ -1,22 +1,34 @@
--- What only the contracts of a job's inner functions cite: the sizes of its arrays, the number of its steps, and when
--- those from one on stay inside an image. Assumes nothing.
+-- What only the contracts of a job's inner functions cite: the sizes of its arrays, windows of its steps, their number,
+-- and when those from one on stay inside an image. Assumes nothing.
 use mathlib.Core.Path.{_≡_}
 use mathlib.Core.Bool.{Bool, true, _&&_, _||_}
 use mathlib.Core.List.{List, [], _∷_}
-use Prim.Native.Nat.{ℕ, suc, _+_, _-_, _*_, min}
+use Prim.Native.Nat.{ℕ, suc, _+_, _-_, _*_, _≤_, min}
 use lib.Dec.{leb}
-use lib.ListN.{length}
+use lib.ListN.{length, take, drop}
 use Rattle.rules.specs.Bytes.{block-size}
+use Rattle.rules.specs.declared.Step.{Step}
 use Rattle.jobs.specs.Jobs.{place-room, meant}
 use Rattle.jobs.specs.declared.Kind.{Kind}
 use Rattle.jobs.specs.declared.Kind.the-variants.{Nothing, Rewrite, Places}
 use Rattle.jobs.specs.declared.Plan.{Plan}
+use Rattle.jobs.specs.declared.Did.{Did}
+use Rattle.jobs.specs.declared.Did.the-variants.{Steps}
+use Rattle.jobs.specs.declared.windows.Window.{Window}
 
 -- the arrays of a part: its block, the places' numbers, the bytes for them
 pub record Sized (b ks v : List ℕ) : Type 0 where
   pub block : length b ≡ block-size
   pub places : length ks ≡ 2 * place-room
   pub value : length v ≡ 8
+
+-- of some steps those in a window: from one on, at most so many
+unfoldable pub chosen : Window → List Step → List Step
+chosen w ss = take (w .n) (drop (w .from) ss)
+
+-- what of a window lies beyond so many steps
+unfoldable pub beyond : ℕ → Window → Window
+beyond size w = record { from = w .from - size; n = w .n - (size - w .from) }
 
 -- the bytes of a block after its magic
 abbrev pub rest-size : ℕ
@@ -34,6 +46,14 @@ part-length Places n = 8 * n
 unfoldable pub listed-length : Plan → ℕ
 listed-length p =
     part-length (p .first) (min (p .count) place-room) + part-length (p .second) (min (p .count) place-room)
+
+-- no job has more steps
+abbrev pub most-steps : ℕ
+most-steps = 8194
+
+-- of a job with so many steps done, what was done can be counted
+unfoldable pub countable : ℕ → Did → Type 0
+countable done did = (n : ℕ) → did ≡ Steps n → n ≤ most-steps - done
 
 -- ---- the steps from one on reach nothing outside an image of this length
 

@@ -3,50 +3,55 @@ use super::Next;
 use super::device;
 use super::numbers;
 use super::programs;
+use super::windows;
+use super::windows::Window;
+use rules::PlaceNo;
 ghost use mathlib.Core.Path.{_≡_};
 ghost use mathlib.Core.Bool.{true};
-ghost use Prim.Native.Nat.{ℕ, _+_, _*_, _≤_};
-ghost use lib.ListN.{length, take, drop};
+ghost use Prim.Native.Nat.{ℕ, _+_, _*_, _≤_, _<_};
+ghost use lib.ListN.{length, drop};
 ghost use Rattle.rules.specs.Bytes.{field};
 ghost use Rattle.rules.specs.Steps.{steps, programs};
 ghost use Rattle.rules.specs.Commands.{into-places};
 ghost use Rattle.jobs.specs.Jobs.{place-room, meant, first-step};
-ghost use Rattle.jobs.specs.Parts.{highest-address, programs-inside, places-inside};
+ghost use Rattle.jobs.specs.Parts.{highest-address, programs-inside, places-inside, chosen, beyond};
 
 // The room for places' numbers in a job.
 pub const PLACE_ROOM: usize = 508;
 
-// The number of two bytes at an index, lowest byte first.
-fn number_at(places: &[u8], i: usize) -> u16
+// The place whose number is at an index, two bytes, lowest first.
+fn place_at(places: &[u8], i: usize) -> PlaceNo
     requires { ⌜ 2 * i + 2 ≤ length (now places) ⌝ }
-    ensures { λ r. ⌜ r ≡ field (2 * i) 2 (now (places .entry)) ⌝ }
+    ensures { λ r. ⌜ (r .0 ≡ field (2 * i) 2 (now (places .entry))) × (r .0 < 0x10000) ⌝ }
 {
-    fields::le16(places, 2 * i) as u16
+    PlaceNo(fields::le16(places, 2 * i) as usize)
 }
 
 // Where a place of the block at an address begins.
-fn place_address(at: u32, offset: u32, place: u16) -> usize
-    ensures { λ r. ⌜ (r ≡ at + (offset + 8 * place)) × (r ≤ highest-address) ⌝ }
+fn place_address(at: u32, offset: u32, place: PlaceNo) -> usize
+    requires { ⌜ place .0 < 0x10000 ⌝ }
+    ensures { λ r. ⌜ (r ≡ at + (offset + 8 * place .0)) × (r ≤ highest-address) ⌝ }
 {
-    at as usize + (offset as usize + 8 * (place as usize))
+    at as usize + (offset as usize + 8 * place.0)
 }
 
-// Do at most n of the steps into the place at an address, whatever the granule. Mostly these are all eight.
-fn do_place(image: &mut [u8], at: usize, value: &[u8], from: usize, n: usize)
-    requires { ⌜ (length (now value) ≡ 8) × (programs-inside (length (now image)) at 8 from ≡ true) ⌝ }
+// Do those into the place at an address, whatever the granule; the window beyond them. Mostly these are all eight.
+fn do_place(image: &mut [u8], at: usize, value: &[u8], window: Window) -> Window
+    requires { ⌜ (length (now value) ≡ 8) × (programs-inside (length (now image)) at 8 (window .from) ≡ true) ⌝ }
+    ensures { λ r. ⌜ r ≡ beyond 8 window ⌝ }
     ensures { λ _. ⌜
         ((g : ℕ) → now (image .exit)
-        ≡ steps g (take n (drop from (programs at (now (value .entry))))) (now (image .entry)))
+        ≡ steps g (chosen window (programs at (now (value .entry)))) (now (image .entry)))
         ⌝ }
 {
-    if (from == 0) & (8 <= n) {
+    if (window.from == 0) & (8 <= window.n) {
         device::program_eight(image, at, value);
-        return;
+        return windows::beyond(window, 8);
     }
-    programs::do_programs(image, at, value, from, n);
+    programs::do_range(image, at, value, window)
 }
 
-// Do at most n of these steps, whatever the granule.
+// Do those in a window, whatever the granule.
 pub fn do_places<'a>(
     image: &mut [u8],
     at: u32,
@@ -54,28 +59,24 @@ pub fn do_places<'a>(
     places: &'a [u8],
     count: usize,
     value: &'a [u8],
-    from: usize,
-    n: usize,
+    window: Window,
 )
     requires { ⌜
         ((length (now places) ≡ 2 * place-room) × (length (now value) ≡ 8))
-        × (places-inside (length (now image)) at offset from (meant count (now places)) ≡ true)
+        × (places-inside (length (now image)) at offset (window .from) (meant count (now places)) ≡ true)
         ⌝ }
     ensures { λ _. ⌜
         ((g : ℕ) → now (image .exit)
-        ≡ steps g (take n (drop from (into-places at offset (now (value .entry)) (meant count (now (places .entry))))))
+        ≡ steps g (chosen window (into-places at offset (now (value .entry)) (meant count (now (places .entry)))))
         (now (image .entry)))
         ⌝ }
 {
     let end = numbers::least(count, PLACE_ROOM);
-    let mut skip = from;
-    let mut m = n;
+    let mut rest = window;
     let mut i = 0;
     while i < end {
-        let place = number_at(places, i);
-        do_place(image, place_address(at, offset, place), value, skip, m);
-        m = numbers::less(m, numbers::less(8, skip));
-        skip = numbers::less(skip, 8);
+        let place = place_at(places, i);
+        rest = do_place(image, place_address(at, offset, place), value, rest);
         i += 1;
     }
 }
@@ -96,7 +97,7 @@ pub fn are_inside(
     let mut skip = from;
     let mut i = 0;
     while i < end {
-        let place = number_at(places, i);
+        let place = place_at(places, i);
         if !programs::are_inside(len, place_address(at, offset, place), 8, skip) {
             return false;
         }
@@ -124,6 +125,6 @@ pub fn next_in_places<'a>(
     if numbers::least(count, PLACE_ROOM) <= i {
         return Next::Finished;
     }
-    let place = number_at(places, i);
+    let place = place_at(places, i);
     programs::next_program(place_address(at, offset, place), value, from % 8)
 }

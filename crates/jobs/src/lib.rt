@@ -1,9 +1,11 @@
-// A job: the list of steps of a command, by value. Running it, what remains of it, which step comes next.
+// A job: the list of steps of a command, by value. Running it, what remains of it, which step comes next, steps that
+// were carried out elsewhere.
 use rules::Step;
+use windows::Window;
 ghost use mathlib.Core.Path.{_≡_};
 ghost use Prim.Native.Nat.{_-_};
-ghost use Rattle.jobs.specs.Jobs.{lent, under-way, admitted, ran, progress-after, did-by-run, image-after-run, steps-left, next-of};
-ghost use Rattle.jobs.specs.Parts.{Sized, listed-length};
+ghost use Rattle.jobs.specs.Jobs.{ran-by, returned, lent, did-by-run, image-after-run, steps-left, next-of, counted, counting};
+ghost use Rattle.jobs.specs.Parts.{Sized, listed-length, countable};
 
 mod device;
 mod into_places;
@@ -11,6 +13,7 @@ mod numbers;
 mod parts;
 mod programs;
 mod rewriting;
+mod windows;
 
 // What a part of a job does at its address.
 pub enum Kind {
@@ -62,11 +65,7 @@ pub enum Next {
 
 // Does as many steps as the budget says, or all that remain.
 pub fn run(job: Job, image: &mut [u8], budget: usize) -> Ran
-    ensures { λ r. ⌜
-        (r ≡ ran job budget (admitted job (now (image .entry))))
-        × (under-way (r .job) (now (image .exit))
-        ≡ progress-after job budget (now (image .entry)) (admitted job (now (image .entry))))
-        ⌝ }
+    ensures { λ r. ⌜ ran-by job budget (now (image .entry)) r (now (image .exit)) ⌝ }
 {
     let plan = job.plan;
     let done = job.done;
@@ -75,6 +74,14 @@ pub fn run(job: Job, image: &mut [u8], budget: usize) -> Ran
     let places = job.places;
     let value = job.value;
     let did = run_lent(plan, done, &first, &second, &places, &value, image, budget);
+    returned(job, did)
+}
+
+// The job with what was done counted.
+fn returned(job: Job, did: Did) -> Ran
+    requires { ⌜ countable (job .done) did ⌝ }
+    ensures { λ r. ⌜ r ≡ returned job did ⌝ }
+{
     match did {
         Did::Refused(number) => Ran {
             job,
@@ -82,7 +89,7 @@ pub fn run(job: Job, image: &mut [u8], budget: usize) -> Ran
         },
         Did::Steps(n) => {
             let mut next = job;
-            next.done = done + n;
+            next.done = job.done + n;
             Ran {
                 job: next,
                 did: Did::Steps(n),
@@ -121,7 +128,11 @@ pub fn run_lent<'a>(
     if (image.len() != plan.len) | !parts::steps_inside(plan, places, done, image.len()) {
         return Did::Refused(12);
     }
-    parts::do_steps(plan, first, second, places, value, done, budget, image);
+    let window = Window {
+        from: done,
+        n: budget,
+    };
+    parts::do_steps(plan, first, second, places, value, window, image);
     Did::Steps(numbers::least(budget, count - done))
 }
 
@@ -169,4 +180,24 @@ pub fn next_lent<'a>(
         ⌝ }
 {
     parts::next_of_parts(plan, first, second, places, value, done)
+}
+
+// Counts steps that were carried out elsewhere, in their order: so many, or all that remain.
+pub fn advance(job: Job, n: usize) -> Ran
+    ensures { λ r. ⌜ r ≡ counting job n ⌝ }
+{
+    let plan = job.plan;
+    let did = counted_of(plan, job.done, n);
+    returned(job, did)
+}
+
+// The same without its arrays: only what is answered.
+pub fn counted_of(plan: Plan, done: usize, n: usize) -> Did
+    ensures { λ r. ⌜ (r ≡ counted (listed-length plan - done) n) × (countable done r) ⌝ }
+{
+    let left = remaining_of(plan, done);
+    if left == 0 {
+        return Did::Refused(11);
+    }
+    Did::Steps(numbers::least(n, left))
 }

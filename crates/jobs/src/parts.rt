@@ -5,13 +5,15 @@ use super::Plan;
 use super::into_places;
 use super::numbers;
 use super::rewriting;
+use super::windows;
+use super::windows::Window;
 ghost use mathlib.Core.Path.{_≡_};
 ghost use mathlib.Core.Bool.{true};
 ghost use Prim.Native.Nat.{_+_, _*_, _≤_, min};
-ghost use lib.ListN.{length, take, drop};
+ghost use lib.ListN.{length, drop};
 ghost use Rattle.rules.specs.Steps.{steps};
 ghost use Rattle.jobs.specs.Jobs.{place-room, meant, part, listed, first-step};
-ghost use Rattle.jobs.specs.Parts.{Sized, part-length, listed-length, part-inside, listed-inside};
+ghost use Rattle.jobs.specs.Parts.{Sized, part-length, listed-length, part-inside, listed-inside, chosen};
 
 // A rewrite: the erase and a byte each.
 const REWRITE_STEPS: usize = 4097;
@@ -38,23 +40,16 @@ pub fn step_count(plan: Plan) -> usize
 
 // ---- whether they stay inside an image
 
-fn part_inside(
-    granule: usize,
-    len: usize,
-    kind: Kind,
-    at: u32,
-    offset: u32,
-    places: &[u8],
-    count: usize,
-    from: usize,
-) -> bool
+fn part_inside(len: usize, plan: Plan, kind: Kind, at: u32, places: &[u8], from: usize) -> bool
     requires { ⌜ length (now places) ≡ 2 * place-room ⌝ }
-    ensures { λ r. ⌜ r ≡ part-inside granule len kind at offset (meant count (now (places .entry))) from ⌝ }
+    ensures { λ r. ⌜
+        r ≡ part-inside (plan .granule) len kind at (plan .offset) (meant (plan .count) (now (places .entry))) from
+        ⌝ }
 {
     match kind {
         Kind::Nothing => true,
-        Kind::Rewrite => rewriting::is_inside(granule, len, at as usize, from),
-        Kind::Places => into_places::are_inside(len, at, offset, places, count, from),
+        Kind::Rewrite => rewriting::is_inside(plan.granule, len, at as usize, from),
+        Kind::Places => into_places::are_inside(len, at, plan.offset, places, plan.count, from),
     }
 }
 
@@ -65,62 +60,42 @@ pub fn steps_inside(plan: Plan, places: &[u8], from: usize, len: usize) -> bool
     let first = plan.first;
     let second = plan.second;
     let rest = numbers::less(from, part_length(first, plan.count));
-    part_inside(
-        plan.granule,
-        len,
-        first,
-        plan.at,
-        plan.offset,
-        places,
-        plan.count,
-        from,
-    )
-        & part_inside(
-            plan.granule,
-            len,
-            second,
-            plan.after,
-            plan.offset,
-            places,
-            plan.count,
-            rest,
-        )
+    part_inside(len, plan, first, plan.at, places, from)
+        & part_inside(len, plan, second, plan.after, places, rest)
 }
 
 // ---- doing them
 
 fn do_part<'a>(
     image: &mut [u8],
-    granule: usize,
+    plan: Plan,
     kind: Kind,
     at: u32,
-    offset: u32,
     block: &'a [u8],
     places: &'a [u8],
-    count: usize,
     value: &'a [u8],
-    from: usize,
-    n: usize,
+    window: Window,
 )
     requires { ⌜
         (Sized (now block) (now places) (now value))
-        × (part-inside granule (length (now image)) kind at offset (meant count (now places)) from ≡ true)
+        × (part-inside (plan .granule) (length (now image)) kind at (plan .offset) (meant (plan .count) (now places))
+        (window .from) ≡ true)
         ⌝ }
     ensures { λ _. ⌜
         now (image .exit)
-        ≡ steps granule
-        (take n (drop from
-        (part kind at offset (now (block .entry)) (meant count (now (places .entry))) (now (value .entry)))))
+        ≡ steps (plan .granule)
+        (chosen window
+        (part kind at (plan .offset) (now (block .entry)) (meant (plan .count) (now (places .entry))) (now (value .entry))))
         (now (image .entry))
         ⌝ }
 {
     match kind {
         Kind::Nothing => {}
         Kind::Rewrite => {
-            rewriting::do_rewrite(image, at as usize, granule, block, from, n);
+            rewriting::do_rewrite(image, at as usize, plan.granule, block, window);
         }
         Kind::Places => {
-            into_places::do_places(image, at, offset, places, count, value, from, n);
+            into_places::do_places(image, at, plan.offset, places, plan.count, value, window);
         }
     }
 }
@@ -131,77 +106,57 @@ pub fn do_steps<'a>(
     second: &'a [u8],
     places: &'a [u8],
     value: &'a [u8],
-    from: usize,
-    n: usize,
+    window: Window,
     image: &mut [u8],
 )
     requires { ⌜
         ((Sized (now first) (now places) (now value)) × (Sized (now second) (now places) (now value)))
-        × (listed-inside (length (now image)) plan (now places) from ≡ true)
+        × (listed-inside (length (now image)) plan (now places) (window .from) ≡ true)
         ⌝ }
     ensures { λ _. ⌜
         now (image .exit)
         ≡ steps (plan .granule)
-        (take n (drop from
-        (listed plan (now (first .entry)) (now (second .entry)) (now (places .entry)) (now (value .entry)))))
+        (chosen window
+        (listed plan (now (first .entry)) (now (second .entry)) (now (places .entry)) (now (value .entry))))
         (now (image .entry))
         ⌝ }
 {
     let one = plan.first;
     let two = plan.second;
     let size = part_length(one, plan.count);
-    do_part(
-        image,
-        plan.granule,
-        one,
-        plan.at,
-        plan.offset,
-        first,
-        places,
-        plan.count,
-        value,
-        from,
-        n,
-    );
-    let m = numbers::less(n, numbers::less(size, from));
-    let rest = numbers::less(from, size);
-    do_part(
-        image,
-        plan.granule,
-        two,
-        plan.after,
-        plan.offset,
-        second,
-        places,
-        plan.count,
-        value,
-        rest,
-        m,
-    );
+    do_part(image, plan, one, plan.at, first, places, value, window);
+    let rest = windows::beyond(window, size);
+    do_part(image, plan, two, plan.after, second, places, value, rest);
 }
 
 // ---- the next of them
 
 fn next_in_part<'a>(
+    plan: Plan,
     kind: Kind,
     at: u32,
-    offset: u32,
     block: &'a [u8],
     places: &'a [u8],
-    count: usize,
     value: &'a [u8],
     from: usize,
 ) -> Next
     requires { ⌜ Sized (now block) (now places) (now value) ⌝ }
     ensures { λ r. ⌜
         r ≡ first-step (drop from
-        (part kind at offset (now (block .entry)) (meant count (now (places .entry))) (now (value .entry))))
+        (part kind at (plan .offset) (now (block .entry)) (meant (plan .count) (now (places .entry))) (now (value .entry))))
         ⌝ }
 {
     match kind {
         Kind::Nothing => Next::Finished,
         Kind::Rewrite => rewriting::next_in_rewrite(at as usize, block, from),
-        Kind::Places => into_places::next_in_places(at, offset, places, count, value, from),
+        Kind::Places => into_places::next_in_places(
+            at,
+            plan.offset,
+            places,
+            plan.count,
+            value,
+            from,
+        ),
     }
 }
 
@@ -222,26 +177,8 @@ pub fn next_of_parts<'a>(
     let one = plan.first;
     let size = part_length(one, plan.count);
     if from < size {
-        return next_in_part(
-            one,
-            plan.at,
-            plan.offset,
-            first,
-            places,
-            plan.count,
-            value,
-            from,
-        );
+        return next_in_part(plan, one, plan.at, first, places, value, from);
     }
     let two = plan.second;
-    next_in_part(
-        two,
-        plan.after,
-        plan.offset,
-        second,
-        places,
-        plan.count,
-        value,
-        from - size,
-    )
+    next_in_part(plan, two, plan.after, second, places, value, from - size)
 }

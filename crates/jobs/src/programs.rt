@@ -2,29 +2,36 @@
 use super::Next;
 use super::device;
 use super::numbers;
+use super::windows;
+use super::windows::Window;
 use rules::Step;
 ghost use mathlib.Core.Path.{_≡_};
 ghost use mathlib.Core.Bool.{true};
 ghost use Prim.Native.Nat.{ℕ, _+_, _≤_};
-ghost use lib.ListN.{length, take, drop};
+ghost use lib.ListN.{length, drop};
 ghost use Rattle.rules.specs.Bytes.{block-size};
 ghost use Rattle.rules.specs.Steps.{steps, programs};
 ghost use Rattle.jobs.specs.Jobs.{first-step};
-ghost use Rattle.jobs.specs.Parts.{highest-address, programs-inside};
+ghost use Rattle.jobs.specs.Parts.{highest-address, programs-inside, chosen, beyond};
 
-// Do at most n of these steps, whatever the granule.
-pub fn do_programs(image: &mut [u8], at: usize, given: &[u8], from: usize, n: usize)
-    requires { ⌜ programs-inside (length (now image)) at (length (now given)) from ≡ true ⌝ }
+// Do those in a window, whatever the granule; the window beyond them.
+pub fn do_range(image: &mut [u8], at: usize, given: &[u8], window: Window) -> Window
+    requires { ⌜ programs-inside (length (now image)) at (length (now given)) (window .from) ≡ true ⌝ }
+    ensures { λ r. ⌜ r ≡ beyond (length (now (given .entry))) window ⌝ }
     ensures { λ _. ⌜
         ((g : ℕ) → now (image .exit)
-        ≡ steps g (take n (drop from (programs at (now (given .entry))))) (now (image .entry)))
+        ≡ steps g (chosen window (programs at (now (given .entry)))) (now (image .entry)))
         ⌝ }
 {
-    if given.len() <= from {
-        return;
+    let size = given.len();
+    let from = window.from;
+    let rest = windows::beyond(window, size);
+    if size <= from {
+        return rest;
     }
-    let m = numbers::least(n, given.len() - from);
+    let m = numbers::least(window.n, size - from);
     device::program(image, at + from, &given[from..from + m]);
+    rest
 }
 
 // So many of these steps reach nothing outside an image of that length.

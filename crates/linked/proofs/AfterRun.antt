@@ -59,4 +59,6 @@ module _ (bs img bs′ img′ : List ℕ) (budget n done : ℕ) (held : given (j
   run-went r e h =
       let (q, a, (next, (image, count))) = went-by (job-from bs) budget n img img′ (admitted (job-from bs) img)
       (sym e ∙ h .did) (h .image) in
-      rw (← held, a) (refl, (h .holds ∙ ap given next, (image, count)))
+      let bytes : bs′ ≡ bytes-after bs (Steps (steps-done budget q)) =
+      h .bytes ∙ ap (bytes-after bs) (e ∙ ap (λ (k : ℕ). Steps k) count) in
+      rw (← held, a) (refl, (h .holds ∙ ap given next, (image, (count, bytes))))

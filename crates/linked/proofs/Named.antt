@@ -8,10 +8,10 @@ use lib.Seq.{sets-eq}
 use borrow.Author.Tests.{le-leb, lt-leb}
 use Rattle.rules.specs.Answers.{Answer, refused, given, unless, _>>=_}
 use Rattle.rules.specs.Numbers.{Setting}
-use Rattle.rules.specs.Readers.{order-in, row-after, slot-facts, slot-name}
+use Rattle.rules.specs.Readers.{row-after, slot-facts, slot-name}
 use Rattle.rules.specs.declared.Facts.{Facts}
 use Rattle.text.specs.Put.{Put}
-use Rattle.linked.specs.Answered.{Written, name-answer}
+use Rattle.linked.specs.Answered.{Written, too-few, name-answer}
 use Rattle.linked.proofs.Numbered.{number-refused, kept-refused}
 
 module _ (s : Setting) (img : List ℕ) (k room : ℕ) where
@@ -22,15 +22,15 @@ module _ (s : Setting) (img : List ℕ) (k room : ℕ) where
   pub name-too-long : {f : Facts}
       → given f ≡ slot-facts s img k
       → room < length (slot-name s img k)
-      → refused 13 ≡ name-answer s img k room
-  unfolding name-answer _>>=_ order-in unless
+      → refused too-few ≡ name-answer s img k room
+  unfolding name-answer _>>=_ unless
   name-too-long e h = rw (← e, lt-leb (length (slot-name s img k)) room h)
 
   pub name-given : {f : Facts}
       → given f ≡ slot-facts s img k
       → length (slot-name s img k) ≤ room
       → given (slot-name s img k) ≡ name-answer s img k room
-  unfolding name-answer _>>=_ order-in unless
+  unfolding name-answer _>>=_ unless
   name-given e h = rw (← e, le-leb (length (slot-name s img k)) room h)
 
 -- bytes put at the front

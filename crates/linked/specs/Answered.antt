@@ -2,10 +2,11 @@
 use mathlib.Core.Path.{_≡_}
 use mathlib.Core.List.{List}
 use Prim.Native.Nat.{ℕ}
+use lib.Dec.{leb}
 use lib.ListN.{length}
-use Rattle.rules.specs.Answers.{Answer, refused, given, _>>=_}
+use Rattle.rules.specs.Answers.{Answer, refused, given, unless, _>>=_}
 use Rattle.rules.specs.Numbers.{Setting}
-use Rattle.rules.specs.Readers.{order-in, row-after, slot-facts, slot-name}
+use Rattle.rules.specs.Readers.{row-after, slot-facts, slot-name}
 
 -- 0, or the number of the refusal, which is never 0
 unfoldable pub number : {A : Type 0} → Answer A → ℕ
@@ -23,6 +24,12 @@ pub record Written (a : Answer (List ℕ)) (r : ℕ) (row row′ : List ℕ) (co
   pub row-left : row′ ≡ row-after a row
   pub count-left : count′ ≡ kept length a count
 
--- the name of a slot, or why there is none; 13 where the lent bytes are too few
+-- the refusal of bytes that are too few for a name
+abbrev pub too-few : ℕ
+too-few = 91
+
+-- the name of a slot, or why there is none
 unfoldable pub name-answer : Setting → List ℕ → ℕ → ℕ → Answer (List ℕ)
-name-answer s img k room = slot-facts s img k >>= λ f. order-in (slot-name s img k) room
+name-answer s img k room =
+    slot-facts s img k
+    >>= λ f. unless too-few (leb (length (slot-name s img k)) room) (given (slot-name s img k))

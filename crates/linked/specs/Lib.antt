@@ -2,3 +2,4 @@ pub mod Answered
 pub mod StepNumbers
 pub mod Begun
 pub mod Ran
+pub mod Counted

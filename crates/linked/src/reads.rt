@@ -104,7 +104,7 @@ pub extern "C" fn delunkpawi_slot_facts(
     }
 }
 
-// The name of a slot up to its zero into the front of the lent bytes, and its length; 13 where they are too few.
+// The name of a slot up to its zero into the front of the lent bytes, and its length; 91 where they are too few.
 #[no_mangle]
 pub extern "C" fn delunkpawi_slot_name(
     image: &[u8],
@@ -126,7 +126,7 @@ pub extern "C" fn delunkpawi_slot_name(
         Known::Is(_) => {
             let found = reading::slot_name(image, granule, spt0, spt1, SlotNo(slot));
             if name.len() < found.len() {
-                return 13;
+                return 91;
             }
             text::put_bytes(name, 0, found);
             *count = found.len();

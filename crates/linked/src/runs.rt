@@ -1,10 +1,11 @@
-// A job run, and what remains of it.
+// A job run, what remains of it, and steps of it that were carried out elsewhere.
 use super::steps;
 use jobs::Did;
 ghost use mathlib.Core.Path.{_≡_};
 ghost use Rattle.jobs.specs.Jobs.{steps-left, next-of};
 ghost use Rattle.job_bytes.specs.Form.{decoded};
 ghost use Rattle.linked.specs.Answered.{number, kept};
+ghost use Rattle.linked.specs.Counted.{Counted};
 ghost use Rattle.linked.specs.Ran.{lent, running, ran-as};
 ghost use Rattle.linked.specs.StepNumbers.{step-kind, step-address, step-byte};
 
@@ -77,4 +78,24 @@ pub extern "C" fn delunkpawi_next_step(
     *address = steps::address_of(next);
     *byte = steps::byte_of(next);
     0
+}
+
+// Counts steps that were carried out elsewhere, in their order: so many, or all that remain; tells how many.
+#[no_mangle]
+pub extern "C" fn delunkpawi_advance(job: &mut [u8], steps: usize, count: &mut usize) -> u8
+    ensures { λ r. ⌜
+        Counted steps r (now (job .entry)) (now (job .exit)) (now (count .entry)) (now (count .exit))
+        ⌝ }
+{
+    if !job_bytes::held::is_job(job) {
+        return 90;
+    }
+    let did = job_bytes::held::advance(job, steps);
+    match did {
+        Did::Refused(number) => number,
+        Did::Steps(n) => {
+            *count = n;
+            0
+        }
+    }
 }

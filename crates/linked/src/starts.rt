@@ -5,9 +5,10 @@ use rules::SlotNo;
 ghost use mathlib.Core.Path.{_≡_};
 ghost use lib.ListN.{length};
 ghost use Rattle.rules.specs.Numbers.{setting};
-ghost use Rattle.rules.specs.Commands.{enable, disable, rename, repair, start};
+ghost use Rattle.rules.specs.Commands.{enable, disable, rename, repair};
+ghost use Rattle.commands.specs.Begins.{start-result};
 ghost use Rattle.job_bytes.specs.Form.{job-size};
-ghost use Rattle.linked.specs.Begun.{for-job, begun-as, handed-over};
+ghost use Rattle.linked.specs.Begun.{handed, handed-over, started-into};
 
 // The length of a buffer for a job.
 #[no_mangle]
@@ -20,7 +21,7 @@ pub extern "C" fn delunkpawi_job_size() -> usize
 // The refusal, or the job into the buffer and 0.
 fn hand_over(begun: Begun, job: &mut [u8]) -> u8
     requires { ⌜ length (now job) ≡ job-size ⌝ }
-    ensures { λ r. ⌜ handed-over r (now (job .entry)) (now (job .exit)) (begun .job) (begun .answer) ⌝ }
+    ensures { λ r. ⌜ handed r (now (job .exit)) ≡ handed-over (now (job .entry)) (begun .job) (begun .answer) ⌝ }
 {
     let answer = begun.answer;
     match answer {
@@ -44,8 +45,8 @@ pub extern "C" fn delunkpawi_enable(
     job: &mut [u8],
 ) -> u8
     ensures { λ r. ⌜
-        begun-as r (now (job .entry)) (now (job .exit)) (length (now (image .entry))) granule
-        (for-job (now (job .entry)) (start (setting granule spt0 spt1) (now (image .entry)) (enable slot)))
+        handed r (now (job .exit))
+        ≡ started-into (now (job .entry)) (start-result (setting granule spt0 spt1) (now (image .entry)) (enable slot))
         ⌝ }
 {
     if job.len() != job_bytes::JOB_SIZE {
@@ -68,8 +69,8 @@ pub extern "C" fn delunkpawi_disable(
     job: &mut [u8],
 ) -> u8
     ensures { λ r. ⌜
-        begun-as r (now (job .entry)) (now (job .exit)) (length (now (image .entry))) granule
-        (for-job (now (job .entry)) (start (setting granule spt0 spt1) (now (image .entry)) (disable slot)))
+        handed r (now (job .exit))
+        ≡ started-into (now (job .entry)) (start-result (setting granule spt0 spt1) (now (image .entry)) (disable slot))
         ⌝ }
 {
     if job.len() != job_bytes::JOB_SIZE {
@@ -93,8 +94,9 @@ pub extern "C" fn delunkpawi_rename(
     job: &mut [u8],
 ) -> u8
     ensures { λ r. ⌜
-        begun-as r (now (job .entry)) (now (job .exit)) (length (now (image .entry))) granule
-        (for-job (now (job .entry)) (start (setting granule spt0 spt1) (now (image .entry)) (rename slot (now (name .entry)))))
+        handed r (now (job .exit))
+        ≡ started-into (now (job .entry))
+        (start-result (setting granule spt0 spt1) (now (image .entry)) (rename slot (now (name .entry))))
         ⌝ }
 {
     if job.len() != job_bytes::JOB_SIZE {
@@ -116,8 +118,8 @@ pub extern "C" fn delunkpawi_repair(
     job: &mut [u8],
 ) -> u8
     ensures { λ r. ⌜
-        begun-as r (now (job .entry)) (now (job .exit)) (length (now (image .entry))) granule
-        (for-job (now (job .entry)) (start (setting granule spt0 spt1) (now (image .entry)) repair))
+        handed r (now (job .exit))
+        ≡ started-into (now (job .entry)) (start-result (setting granule spt0 spt1) (now (image .entry)) repair)
         ⌝ }
 {
     if job.len() != job_bytes::JOB_SIZE {

@@ -20,12 +20,11 @@ use Rattle.rules.proofs.Tests.{by-cases, and-true}
 use Rattle.rules.proofs.Clearing.{named-starts}
 use Rattle.rules.proofs.OnceEach.{once-order, once-length}
 use Rattle.walks.proofs.Joined.{or-assoc, or-with-false}
-use Rattle.places.specs.StandingPointers.{FreeFrom}
 use Rattle.places.specs.Added.{added, added-at, then, growth, stored, place-value}
 use Rattle.places.specs.declared.Added.{Added}
 use Rattle.places.specs.declared.Added.the-variants.{Slot, Nothing}
-use Rattle.places.proofs.Values.{place-turn}
-use Rattle.places.proofs.Free.{none-added}
+use Rattle.places.proofs.Values.{place-down}
+use Rattle.places.proofs.Free.{FreeFrom, none-above}
 
 -- a live place has its slot's start as its value
 pub live-start : (starts : List ℕ) (v : ℕ) (s : SlotNo) → judged starts v ≡ Live s → getD starts (s .0) 0 ≡ v
@@ -122,9 +121,6 @@ pub record MetFrom (starts p : List ℕ) (k met : ℕ) : Type 0 where
   pub room : met + k ≤ place-count p
   pub count : met ≡ length (order starts (drop k (places p)))
 
-pub none-above : (starts p : List ℕ) (end : ℕ) → FreeFrom p end → order starts (drop end (places p)) ≡ []
-none-above starts p end free = none-added starts (drop end (places p)) (free .erased)
-
 pub none-met : (starts p : List ℕ) (end : ℕ) → FreeFrom p end → MetFrom starts p end 0
 none-met starts p end free = record {
   within = free .within;
@@ -139,8 +135,7 @@ module _ (starts p : List ℕ) (k : ℕ) (above : 0 < k) (within : k ≤ place-c
   unfolding added-at
   order-down =
       let e : k - 1 + 1 ≡ k = omega arith in
-      let turn = rw e at (place-turn p (k - 1) (omega arith)) in
-      rw (turn, e) (order-then starts (drop k (places p)) (place-value p (k - 1)))
+      rw (place-down p k above within, e) (order-then starts (drop k (places p)) (place-value p (k - 1)))
 
   pub length-down : length (order starts (drop (k - 1) (places p)))
       ≡ length (order starts (drop k (places p))) + growth (added-at starts p (k - 1))

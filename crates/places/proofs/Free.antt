@@ -4,22 +4,23 @@ use mathlib.Core.Path.{_≡_, refl, sym, ap, _∙_}
 use mathlib.Core.Bool.{Bool, true, false}
 use mathlib.Core.List.{List, [], _∷_}
 use mathlib.Core.Option.{Option, none, some}
-use Prim.Native.Nat.{ℕ, zero, suc, _+_, _-_, _≤_, _<_}
+use Prim.Native.Nat.{ℕ, zero, suc, _+_, _-_, _≤_}
 use native.Mathlib.Omega.{arith}
 use lib.Dec.{eqb}
 use borrow.Author.Tests.{eqb-true, eqb-false, ne-eqb}
 use lib.ListN.{drop}
 use lib.Seq.{drop-drop}
 use Rattle.rules.specs.Lists.{member, all}
-use Rattle.rules.specs.Pointers.{place-count, places, erased-value, all-ones, slot-at, live-or-dead, judged, is-erased, slot-given, add-last, order}
-use Rattle.rules.specs.Commands.{below, free-place}
+use Rattle.rules.specs.Pointers.{place-offset, place-count, places, erased-value, all-ones, slot-at, live-or-dead, judged, is-erased, slot-given, add-last, order}
+use Rattle.rules.specs.Commands.{free-place}
 use Rattle.rules.specs.declared.SlotNo.{SlotNo}
 use Rattle.rules.specs.declared.Place.the-variants.{Live}
 use Rattle.rules.proofs.Tests.{by-cases, and-true}
-use Rattle.walks.proofs.Loops.{all-over}
-use Rattle.places.specs.StandingPointers.{FreeFrom}
-use Rattle.places.specs.Added.{place-value}
-use Rattle.places.proofs.Values.{place-turn, place-over}
+use Rattle.walks.specs.Last.{last-from}
+use Rattle.walks.proofs.Last.{last-within, last-passes}
+use Rattle.places.specs.PlacesOf.{free-from, places-of, HasPlaces}
+use Rattle.places.specs.declared.Places.{Places}
+use Rattle.places.proofs.Values.{length-places}
 
 -- ---- a place is erased by its value alone
 
@@ -38,22 +39,28 @@ pub live-used : (starts : List ℕ) (v : ℕ) (s : SlotNo) → judged starts v �
 unfolding is-erased
 live-used starts v s h = sym (erased-by-value starts v) ∙ ap is-erased h
 
+-- so the free place does not depend on where the slots start
+pub free-by-value : (starts vs : List ℕ) → free-place starts vs ≡ last-from all-ones vs
+unfolding free-place last-from
+free-by-value starts [] = refl
+free-by-value starts (v ∷ vs) = rw (erased-by-value starts v, free-by-value starts vs)
+
 -- ---- erased places
 
-module _ (starts : List ℕ) where
-  none-used : (vs : List ℕ) → all all-ones vs ≡ true → free-place starts vs ≡ 0
-  unfolding all free-place below
-  none-used [] h = refl
-  none-used (v ∷ vs) h =
-      let (one, more) = and-true (all-ones v) (all all-ones vs) h in
-      rw (erased-by-value starts v, one, none-used vs more)
+-- from this place on all places are erased
+pub record FreeFrom (p : List ℕ) (end : ℕ) : Type 0 where
+  pub within : end ≤ place-count p
+  pub erased : all all-ones (drop end (places p)) ≡ true
 
-  pub none-added : (vs : List ℕ) → all all-ones vs ≡ true → order starts vs ≡ []
-  unfolding all order judged slot-given add-last
-  none-added [] h = refl
-  none-added (v ∷ vs) h =
-      let (one, more) = and-true (all-ones v) (all all-ones vs) h in
-      rw (one, none-added vs more)
+none-added : (starts vs : List ℕ) → all all-ones vs ≡ true → order starts vs ≡ []
+unfolding all order judged slot-given add-last
+none-added starts [] h = refl
+none-added starts (v ∷ vs) h =
+    let (one, more) = and-true (all-ones v) (all all-ones vs) h in
+    rw (one, none-added starts vs more)
+
+pub none-above : (starts p : List ℕ) (end : ℕ) → FreeFrom p end → order starts (drop end (places p)) ≡ []
+none-above starts p end free = none-added starts (drop end (places p)) (free .erased)
 
 none-holds : (v : ℕ) (vs : List ℕ) → all-ones v ≡ false → all all-ones vs ≡ true → member v vs ≡ false
 unfolding all all-ones member
@@ -76,45 +83,24 @@ not-held p end k v h l u =
     let further = all-further all-ones (k - end) (drop end (places p)) (h .erased) in
     none-holds v (drop k (places p)) u (rw (drop-drop (k - end) end (places p), e) at further)
 
--- ---- from the last place down
+-- ---- by the places
 
-pub free-past-last : (p : List ℕ) → FreeFrom p (place-count p)
-free-past-last p = record {
-  within = omega arith;
-  erased = all-over all-ones (place-over p (place-count p) (omega arith));
-}
+module _ (p : List ℕ) (k : Places) (h : HasPlaces p k) where
+  pub offset-is : k .offset ≡ place-offset p
+  unfolding places-of
+  offset-is = ap (λ (q : Places). q .offset) (h .places)
 
-below-more : (t : Bool) (n : ℕ) → below t (suc n) ≡ suc (suc n)
-unfolding below
-below-more true n = refl
-below-more false n = refl
+  pub count-is : k .count ≡ place-count p
+  unfolding places-of
+  count-is = ap (λ (q : Places). q .count) (h .places)
 
-free-above : (starts vs : List ℕ) (k n : ℕ) → free-place starts (drop k vs) ≡ suc n → free-place starts vs ≡ k + suc n
-unfolding free-place
-free-above starts vs zero n h = h ∙ omega arith
-free-above starts [] (suc k) n h = absurd (omega arith)
-free-above starts (v ∷ vs) (suc k) n h =
-    let e : k + suc n ≡ suc (k + n) = omega arith in
-    rw (free-above starts vs k n h, e, below-more) (omega arith)
+  pub free-is : k .free .0 ≡ free-from p
+  unfolding places-of
+  free-is = ap (λ (q : Places). q .free .0) (h .places)
 
--- one turn of a walk from place k down to place k - 1
-module _ (p : List ℕ) (k : ℕ) (above : 0 < k) (free : FreeFrom p k) where
-  turn : drop (k - 1) (places p) ≡ place-value p (k - 1) ∷ drop k (places p)
-  turn = let e : k - 1 + 1 ≡ k = omega arith in rw e at (place-turn p (k - 1) (omega (arith, free .within)))
-
-  pub free-lower : all-ones (place-value p (k - 1)) ≡ true → FreeFrom p (k - 1)
-  unfolding all
-  free-lower t = record {
-    within = omega (arith, free .within);
-    erased = rw (turn, t) (free .erased);
-  }
-
-  pub free-found : all-ones (place-value p (k - 1)) ≡ false → (starts : List ℕ) → free-place starts (places p) ≡ k
-  unfolding free-place below
-  free-found t starts =
-      free-above starts (places p) (k - 1) 0
-      (rw (turn, none-used starts (drop k (places p)) (free .erased), erased-by-value starts (place-value p (k - 1)), t))
-      ∙ omega arith
-
-pub free-from-0 : (p : List ℕ) → FreeFrom p 0 → (starts : List ℕ) → free-place starts (places p) ≡ 0
-free-from-0 p h starts = none-used starts (places p) (h .erased)
+  pub free-places : FreeFrom p (k .free .0)
+  unfolding free-from
+  free-places = rw free-is (record {
+    within = omega (arith, last-within all-ones (places p), length-places p);
+    erased = last-passes all-ones (places p);
+  })

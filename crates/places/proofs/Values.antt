@@ -1,9 +1,9 @@
 -- The places of a pointer block by number, and where they lie in a block that stands. Assumes nothing.
 use mathlib.Core.Path.{_≡_, refl}
 use mathlib.Core.List.{List, [], _∷_}
-use Prim.Native.Nat.{ℕ, _+_, _*_, _≤_, _<_}
+use Prim.Native.Nat.{ℕ, _+_, _-_, _*_, _≤_, _<_}
 use native.Mathlib.Omega.{arith}
-use lib.ListN.{take, drop, drop-of-length-le}
+use lib.ListN.{length, take, drop, drop-of-length-le}
 use Rattle.rules.specs.Bytes.{little-endian, field, block-size}
 use Rattle.rules.specs.Pointers.{place-offset, place-count, values, places}
 use Rattle.rules.proofs.Words.{length-values}
@@ -21,11 +21,24 @@ module _ (p : List ℕ) (k : ℕ) where
   place-turn h =
       rows-turn 8 (λ bs. little-endian (take 8 bs)) values (λ n bs. refl) (place-count p) k (place-offset p) p h
 
+  -- the same on the way down
+  pub place-down : 0 < k → k ≤ place-count p → drop (k - 1) (places p) ≡ place-value p (k - 1) ∷ drop k (places p)
+  unfolding places place-value values field
+  place-down some h =
+      let e : k - 1 + 1 ≡ k = omega arith in
+      rw e at
+      (rows-turn 8 (λ bs. little-endian (take 8 bs)) values (λ n bs. refl) (place-count p) (k - 1) (place-offset p) p
+      (omega arith))
+
   -- and its end
   pub place-over : place-count p ≤ k → drop k (places p) ≡ []
   unfolding places
   place-over h =
       drop-of-length-le (values (place-count p) (drop (place-offset p) p)) {i = k} (rw length-values h)
+
+pub length-places : (p : List ℕ) → length (places p) ≡ place-count p
+unfolding places
+length-places p = length-values (place-count p) (drop (place-offset p) p)
 
 -- ---- in a block that stands
 

@@ -5,8 +5,7 @@ use Prim.Native.Nat.{ℕ, _+_, _*_}
 use lib.ListN.{drop, set}
 use Rattle.rules.specs.Lists.{member}
 use Rattle.rules.specs.Bytes.{field}
-use Rattle.rules.specs.Table.{rows, slot-starts}
-use Rattle.rules.specs.Pointers.{place-offset, places, judged, order}
+use Rattle.rules.specs.Pointers.{place-offset, places, judged}
 use Rattle.rules.specs.declared.Place.{Place}
 use Rattle.rules.specs.declared.Place.the-variants.{Erased, Live, Dead}
 use Rattle.places.specs.declared.Added.{Added}
@@ -23,13 +22,13 @@ added (Live s) false = Slot s
 unfoldable pub place-value : List ℕ → ℕ → ℕ
 place-value p k = field (place-offset p + 8 * k) 8 p
 
+-- a place above place k has the value
+abbrev pub held-above : List ℕ → ℕ → ℕ → Bool
+held-above p k v = member v (drop (k + 1) (places p))
+
 -- what place k of a pointer block adds, by the slots' starts
 unfoldable pub added-at : List ℕ → List ℕ → ℕ → Added
-added-at starts p k = added (judged starts (place-value p k)) (member (place-value p k) (drop (k + 1) (places p)))
-
--- the boot order by the first n entries of a table and a pointer block
-abbrev pub order-by-rows : ℕ → List ℕ → List ℕ → List ℕ
-order-by-rows n t p = order (slot-starts (rows n t)) (places p)
+added-at starts p k = added (judged starts (place-value p k)) (held-above p k (place-value p k))
 
 -- an order with it at its end
 unfoldable pub then : List ℕ → Added → List ℕ

@@ -1,2 +1,3 @@
 pub mod StandingPointers
+pub mod PlacesOf
 pub mod Added

@@ -4,21 +4,18 @@ pub mod order; // the walk of the boot order
 use rules::Place;
 use rules::PlaceNo;
 use rules::SlotNo;
-use slots::LastSlots;
+use slots::Rows;
 ghost use mathlib.Core.Path.{_≡_};
 ghost use mathlib.Core.Bool.{true, false};
-ghost use mathlib.Core.List.{List};
-ghost use Prim.Native.Nat.{ℕ, _+_, _≤_, _<_};
-ghost use lib.ListN.{length, drop};
-ghost use Rattle.rules.specs.Lists.{member};
+ghost use Prim.Native.Nat.{_+_, _≤_, _<_};
+ghost use lib.ListN.{length};
 ghost use Rattle.rules.specs.Bytes.{block, block-size};
-ghost use Rattle.rules.specs.Table.{rows, slot-starts};
-ghost use Rattle.rules.specs.Pointers.{place-offset, place-count, places, pointers-stand, all-ones, judged};
-ghost use Rattle.rules.specs.Commands.{free-place};
-ghost use Rattle.walks.specs.Entries.{most-entries};
-ghost use Rattle.slots.specs.Ends.{Ends};
-ghost use Rattle.places.specs.StandingPointers.{StandingPointers, FreeFrom};
-ghost use Rattle.places.specs.Added.{added-at, place-value};
+ghost use Rattle.rules.specs.Table.{starts};
+ghost use Rattle.rules.specs.Pointers.{place-offset, place-count, pointers-stand, all-ones, judged};
+ghost use Rattle.slots.specs.RowsOf.{HasRows};
+ghost use Rattle.places.specs.StandingPointers.{StandingPointers};
+ghost use Rattle.places.specs.PlacesOf.{free-from, places-of, HasPlaces};
+ghost use Rattle.places.specs.Added.{held-above, added-at, place-value};
 
 // The five named fields of a block that stands: the magic, the header's size, the block's size, where the places
 // begin and how many there are.
@@ -34,6 +31,14 @@ const PLACE_COUNT: usize = 508;
 
 // The value of an erased place.
 const ALL_ONES: u64 = 0xFFFF_FFFF_FFFF_FFFF;
+
+// The places of a pointer block: where they begin, how many there are, and the lowest such that it and all above are
+// erased, or the count.
+pub struct Places {
+    pub offset: usize,
+    pub count: usize,
+    pub free: PlaceNo,
+}
 
 // What one place adds to the boot order.
 pub enum Added {
@@ -61,56 +66,91 @@ pub fn block_stands(p: &[u8]) -> bool
         & (fields::le32(p, 0x14) == PLACE_COUNT as u64)
 }
 
-// Where the places begin.
-pub fn place_offset(p: &[u8]) -> usize
+// ---- the places
+
+pub fn places_of(p: &[u8]) -> Places
+    requires { ⌜ StandingPointers (now p) ⌝ }
+    ensures { λ r. ⌜ r ≡ places-of (now (p .entry)) ⌝ }
+{
+    Places {
+        offset: place_offset(p),
+        count: place_count(p),
+        free: free_place(p),
+    }
+}
+
+fn place_offset(p: &[u8]) -> usize
     requires { ⌜ pointers-stand (now p) ≡ true ⌝ }
     ensures { λ r. ⌜ r ≡ place-offset (now (p .entry)) ⌝ }
 {
     PLACE_OFFSET
 }
 
-// How many places there are.
-pub fn place_count(p: &[u8]) -> usize
+fn place_count(p: &[u8]) -> usize
     requires { ⌜ pointers-stand (now p) ≡ true ⌝ }
     ensures { λ r. ⌜ r ≡ place-count (now (p .entry)) ⌝ }
 {
     PLACE_COUNT
 }
 
-// The value of a place.
-pub fn place_value(p: &[u8], place: PlaceNo) -> u64
-    requires { ⌜ StandingPointers (now p) × (place .0 < place-count (now p)) ⌝ }
-    ensures { λ r. ⌜ r ≡ place-value (now (p .entry)) (place .0) ⌝ }
-{
-    fields::le64(p, place_offset(p) + 8 * place.0)
-}
-
-// The lowest place such that it and all above are erased; the count of places where the last is not erased. Where the
-// slots start does not matter.
-pub fn free_place(p: &[u8]) -> usize
+// The lowest place such that it and all above are erased; the count of places where the last is not erased.
+fn free_place(p: &[u8]) -> PlaceNo
     requires { ⌜ StandingPointers (now p) ⌝ }
-    ensures { λ r. ⌜ ((starts : List ℕ) → r ≡ free-place starts (places (now (p .entry))))
-        × FreeFrom (now (p .entry)) r ⌝ }
+    ensures { λ r. ⌜ r .0 ≡ free-from (now (p .entry)) ⌝ }
 {
+    let offset = place_offset(p);
     let mut k = place_count(p);
     while 0 < k {
-        k -= 1;
-        if place_value(p, PlaceNo(k)) != ALL_ONES {
-            return k + 1;
+        if value_at(p, offset, PlaceNo(k - 1)) != ALL_ONES {
+            return PlaceNo(k);
         }
+        k -= 1;
     }
-    0
+    PlaceNo(0)
 }
 
-// A place above this one has the value, which is not that of an erased place. From `end` on all places are erased.
-pub fn held_above(p: &[u8], end: usize, place: PlaceNo, v: u64) -> bool
-    requires { ⌜ ((StandingPointers (now p) × FreeFrom (now p) end) × (place .0 < place-count (now p)))
-        × (all-ones v ≡ false) ⌝ }
-    ensures { λ r. ⌜ r ≡ member v (drop (place .0 + 1) (places (now (p .entry)))) ⌝ }
+// The value of a place, by where the places begin.
+fn value_at(p: &[u8], offset: usize, place: PlaceNo) -> u64
+    requires { ⌜ StandingPointers (now p) × ((offset ≡ place-offset (now p)) × (place .0 < place-count (now p))) ⌝ }
+    ensures { λ r. ⌜ r ≡ place-value (now (p .entry)) (place .0) ⌝ }
 {
+    fields::le64(p, offset + 8 * place.0)
+}
+
+// The value of a place.
+pub fn place_value(p: &[u8], places: Places, place: PlaceNo) -> u64
+    requires { ⌜ HasPlaces (now p) places × (place .0 < places .count) ⌝ }
+    ensures { λ r. ⌜ r ≡ place-value (now (p .entry)) (place .0) ⌝ }
+{
+    value_at(p, places.offset, place)
+}
+
+// ---- what a place holds and adds
+
+// What a place with this value holds, by a table.
+pub fn judge(t: &[u8], rows: Rows, v: u64) -> Place
+    requires { ⌜ HasRows (now t) rows ⌝ }
+    ensures { λ r. ⌜ r ≡ judged (starts (now (t .entry))) v ⌝ }
+{
+    if v == ALL_ONES {
+        return Place::Erased;
+    }
+    let e = slots::find_slot(t, rows.count, v);
+    if rows.count <= e.0 {
+        return Place::Dead;
+    }
+    Place::Live(slots::slot_at(t, rows, e))
+}
+
+// A place above this one has the value, which is not that of an erased place.
+pub fn held_above(p: &[u8], places: Places, place: PlaceNo, v: u64) -> bool
+    requires { ⌜ (HasPlaces (now p) places × (place .0 < places .count)) × (all-ones v ≡ false) ⌝ }
+    ensures { λ r. ⌜ r ≡ held-above (now (p .entry)) (place .0) v ⌝ }
+{
+    let end = places.free.0;
     let mut k = place.0 + 1;
     while k < end {
-        if v == place_value(p, PlaceNo(k)) {
+        if v == place_value(p, places, PlaceNo(k)) {
             return true;
         }
         k += 1;
@@ -118,37 +158,18 @@ pub fn held_above(p: &[u8], end: usize, place: PlaceNo, v: u64) -> bool
     false
 }
 
-// What a place with this value holds, by the first n entries of a table and its last slots.
-pub fn judge(t: &[u8], n: usize, last: LastSlots, v: u64) -> Place
-    requires { ⌜ ((length (now t) ≡ block-size) × (n ≤ most-entries)) × Ends (now t) n last ⌝ }
-    ensures { λ r. ⌜ r ≡ judged (slot-starts (rows n (now (t .entry)))) v ⌝ }
+// What a place adds to the boot order: its slot, if it is live and no higher place has the same value.
+pub fn added_by(t: &[u8], rows: Rows, p: &[u8], places: Places, place: PlaceNo) -> Added
+    requires { ⌜ HasRows (now t) rows × (HasPlaces (now p) places × (place .0 < places .count)) ⌝ }
+    ensures { λ r. ⌜ r ≡ added-at (starts (now (t .entry))) (now (p .entry)) (place .0) ⌝ }
 {
-    if v == ALL_ONES {
-        return Place::Erased;
-    }
-    let e = slots::find_slot(t, n, v);
-    let before = e.0;
-    if n <= before {
-        return Place::Dead;
-    }
-    let slot = slots::slots_before(t, n, last, e) as u32;
-    Place::Live(SlotNo(slot))
-}
-
-// What a place adds to the boot order: its slot, if it is live and no higher place has the same value. From `end` on
-// all places are erased.
-pub fn added_by(t: &[u8], n: usize, last: LastSlots, p: &[u8], end: usize, place: PlaceNo) -> Added
-    requires { ⌜ (((length (now t) ≡ block-size) × (n ≤ most-entries)) × Ends (now t) n last)
-        × ((StandingPointers (now p) × FreeFrom (now p) end) × (place .0 < place-count (now p))) ⌝ }
-    ensures { λ r. ⌜ r ≡ added-at (slot-starts (rows n (now (t .entry)))) (now (p .entry)) (place .0) ⌝ }
-{
-    let v = place_value(p, place);
-    let judgement = judge(t, n, last, v);
+    let v = place_value(p, places, place);
+    let judgement = judge(t, rows, v);
     match judgement {
         Place::Erased => Added::Nothing,
         Place::Dead => Added::Nothing,
         Place::Live(s) => {
-            if held_above(p, end, place, v) {
+            if held_above(p, places, place, v) {
                 return Added::Nothing;
             }
             Added::Slot(s)

@@ -2,49 +2,47 @@
 // above which nothing is added, until all slots are met. A live place is compared with those above it up to the first
 // of its value; of one slot these stretches do not overlap, so that all of them together are at most places times slots.
 use super::Added;
+use super::Places;
 use rules::PlaceNo;
-use slots::LastSlots;
+use slots::Rows;
 ghost use mathlib.Core.Path.{_≡_};
 ghost use mathlib.Core.List.{_++_};
 ghost use Prim.Native.Nat.{_+_, _≤_};
 ghost use lib.ListN.{length, drop};
-ghost use Rattle.rules.specs.Bytes.{block-size};
-ghost use Rattle.walks.specs.Entries.{most-entries};
-ghost use Rattle.slots.specs.Ends.{Ends};
-ghost use Rattle.places.specs.StandingPointers.{StandingPointers};
-ghost use Rattle.places.specs.Added.{growth, stored, order-by-rows};
+ghost use Rattle.rules.specs.Copies.{order-by};
+ghost use Rattle.slots.specs.RowsOf.{HasRows};
+ghost use Rattle.places.specs.PlacesOf.{HasPlaces};
+ghost use Rattle.places.specs.Added.{growth, stored};
 
 // How many slots the order has.
-pub fn order_length(t: &[u8], n: usize, last: LastSlots, p: &[u8]) -> usize
-    requires { ⌜ (((length (now t) ≡ block-size) × (n ≤ most-entries)) × Ends (now t) n last) × StandingPointers (now p) ⌝ }
-    ensures { λ r. ⌜ r ≡ length (order-by-rows n (now (t .entry)) (now (p .entry))) ⌝ }
+pub fn order_length(t: &[u8], rows: Rows, p: &[u8], places: Places) -> usize
+    requires { ⌜ HasRows (now t) rows × HasPlaces (now p) places ⌝ }
+    ensures { λ r. ⌜ r ≡ length (order-by (now (t .entry)) (now (p .entry))) ⌝ }
 {
-    let total = slots::slot_total(t, n, last);
-    let end = super::free_place(p);
+    let total = slots::slot_total(t, rows);
     let mut len = 0;
-    let mut k = end;
+    let mut k = places.free.0;
     while (0 < k) & (len < total) {
         k -= 1;
-        len += growth_of(super::added_by(t, n, last, p, end, PlaceNo(k)));
+        len += growth_of(super::added_by(t, rows, p, places, PlaceNo(k)));
     }
     len
 }
 
 // The order into the front of a row that has room for it, and its length.
-pub fn write_order(t: &[u8], n: usize, last: LastSlots, p: &[u8], row: &mut [u32]) -> usize
-    requires { ⌜ ((((length (now t) ≡ block-size) × (n ≤ most-entries)) × Ends (now t) n last) × StandingPointers (now p))
-        × (length (order-by-rows n (now t) (now p)) ≤ length (now row)) ⌝ }
-    ensures count { λ r. ⌜ r ≡ length (order-by-rows n (now (t .entry)) (now (p .entry))) ⌝ }
-    ensures written { λ r. ⌜ now (row .exit) ≡ order-by-rows n (now (t .entry)) (now (p .entry))
-        ++ drop (length (order-by-rows n (now (t .entry)) (now (p .entry)))) (now (row .entry)) ⌝ }
+pub fn write_order(t: &[u8], rows: Rows, p: &[u8], places: Places, row: &mut [u32]) -> usize
+    requires { ⌜ (HasRows (now t) rows × HasPlaces (now p) places)
+        × (length (order-by (now t) (now p)) ≤ length (now row)) ⌝ }
+    ensures count { λ r. ⌜ r ≡ length (order-by (now (t .entry)) (now (p .entry))) ⌝ }
+    ensures written { λ r. ⌜ now (row .exit) ≡ order-by (now (t .entry)) (now (p .entry))
+        ++ drop (length (order-by (now (t .entry)) (now (p .entry)))) (now (row .entry)) ⌝ }
 {
-    let total = slots::slot_total(t, n, last);
-    let end = super::free_place(p);
+    let total = slots::slot_total(t, rows);
     let mut at = 0;
-    let mut k = end;
+    let mut k = places.free.0;
     while (0 < k) & (at < total) {
         k -= 1;
-        let added = super::added_by(t, n, last, p, end, PlaceNo(k));
+        let added = super::added_by(t, rows, p, places, PlaceNo(k));
         store(added, at, row);
         at += growth_of(added);
     }

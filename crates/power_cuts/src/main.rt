@@ -1,11 +1,14 @@
 // Cuts every command at every step, and inside every erase, on the images under data/, and counts what is read then.
 //
-// After each cut the flash is repaired and one further command is finished. A line for each command says how many
-// cuts there were, how many left the old reading, the new one or another, after how many the repair kept the reading
-// and made the pairs agree, and after how many the further command then left what the book says.
+// Inside an erase on a granule of 4,096 bytes the power fails after every number of bytes from 0 to 4,096; on the wide
+// image, whose granule is 65,536, after 0, 1, 2, 3, 4, 4,095, 4,096 and 65,536. After each cut the flash is repaired and
+// one further command is finished. A line for each command says how many cuts there were, how many left the old
+// reading, the new one or another, after how many the repair kept the reading and made the pairs agree, and after how
+// many the further command then left what the book says.
 use bench::Done;
 use book::Book;
 use book::Command;
+use book::Read;
 use book::Setting;
 use jobs::Job;
 use jobs::Next;
@@ -21,6 +24,9 @@ mod tally;
 
 // The length of the longest of the images.
 const LONGEST: usize = 458752;
+
+// The smallest granule.
+const SMALLEST: usize = 4096;
 
 fn image_buffer() -> [u8; LONGEST]
     ensures { λ r. ⌜ 458752 ≡ length r ⌝ }
@@ -47,9 +53,21 @@ fn is_long(done: Done) -> bool {
     }
 }
 
+// One image copied over another of the same length.
+fn copy(from: &[u8], to: &mut [u8]) {
+    if from.len() != to.len() {
+        return;
+    }
+    let mut i = 0;
+    while i < to.len() {
+        to[i] = from[i];
+        i += 1;
+    }
+}
+
 // The flash, with so many bytes from an address on wiped, and what it reads as.
-fn cut_flash(flash: &[u8], work: &mut [u8], s: Setting, at: usize, k: usize) -> Book {
-    bench::copy(flash, work);
+fn cut_flash(flash: &[u8], work: &mut [u8], s: Setting, at: usize, k: usize) -> Read {
+    copy(flash, work);
     bench::wipe(work, at, k);
     book::read_book(work, s)
 }
@@ -57,14 +75,14 @@ fn cut_flash(flash: &[u8], work: &mut [u8], s: Setting, at: usize, k: usize) -> 
 // A repair keeps the reading and makes the pairs agree.
 fn is_repaired(work: &mut [u8], s: Setting, cut: Book) -> bool {
     bench::finish(work, s, Command::Repair);
-    book::same_book(book::read_book(work, s), cut) & book::pairs_agree(work, s)
+    book::reads_as(book::read_book(work, s), cut) & book::pairs_agree(work, s)
 }
 
 // A further command leaves what the book says.
 fn is_right_then(work: &mut [u8], s: Setting, cut: Book) -> bool {
     let next = further(cut);
     let long = is_long(bench::finish(work, s, next));
-    let held = book::same_book(book::read_book(work, s), book::booked(cut, next));
+    let held = book::reads_as(book::read_book(work, s), book::booked(cut, next));
     long & (held & book::pairs_agree(work, s))
 }
 
@@ -78,22 +96,34 @@ fn try_cut(
     new: Book,
     t: Tally,
 ) -> Tally {
-    let cut = cut_flash(flash, work, s, at, k);
+    let read = cut_flash(flash, work, s, at, k);
+    let cut = read.book;
     let repaired = is_repaired(work, s, cut);
     let right = is_right_then(work, s, cut);
     tally::counted(
         t,
-        book::same_book(cut, old),
-        book::same_book(cut, new),
+        book::reads_as(read, old),
+        book::reads_as(read, new),
         repaired,
         right,
     )
 }
 
-// How many bytes of the granule a cut inside an erase leaves wiped, of eight choices.
-fn wiped_bytes(choice: usize, granule: usize) -> usize {
-    match choice {
-        0 | 1 | 2 | 3 | 4 => choice,
+// How many cuts are tried inside an erase.
+fn erase_cuts(granule: usize) -> usize {
+    if granule == SMALLEST {
+        return SMALLEST + 1;
+    }
+    8
+}
+
+// How many bytes of the granule a cut inside an erase leaves wiped.
+fn wiped_bytes(cut: usize, granule: usize) -> usize {
+    if granule == SMALLEST {
+        return cut;
+    }
+    match cut {
+        0 | 1 | 2 | 3 | 4 => cut,
         5 => 4095,
         6 => 4096,
         _ => granule,
@@ -109,9 +139,10 @@ fn try_erase(
     new: Book,
     t: Tally,
 ) -> Tally {
+    let count = erase_cuts(s.granule);
     let mut sum = t;
     let mut i = 0;
-    while i < 8 {
+    while i < count {
         sum = try_cut(flash, work, s, at, wiped_bytes(i, s.granule), old, new, sum);
         i += 1;
     }
@@ -168,8 +199,9 @@ fn try_job(
 
 // Starts a command on an image, and tries every cut of its job on a flash that starts as this image.
 fn try_start(image: &[u8], flash: &mut [u8], work: &mut [u8], s: Setting, command: Command) {
-    bench::copy(image, flash);
-    let old = book::read_book(image, s);
+    copy(image, flash);
+    let read = book::read_book(image, s);
+    let old = read.book;
     let begun = bench::begin(image, s, command);
     let job = begun.job;
     let answer = begun.answer;
@@ -189,26 +221,25 @@ fn try_command(image: &[u8], s: Setting, command: Command) {
 
 // ---- all of them
 
-fn try_slot(image: &[u8], s: Setting, slot: u32) {
+fn try_slot(image: &[u8], s: Setting, slot: SlotNo) {
     printing::print_command(b"enable ", slot);
-    try_command(image, s, Command::Enable(SlotNo(slot)));
+    try_command(image, s, Command::Enable(slot));
     printing::print_command(b"disable ", slot);
-    try_command(image, s, Command::Disable(SlotNo(slot)));
+    try_command(image, s, Command::Disable(slot));
+    printing::print_command(b"rename ", slot);
+    try_command(image, s, Command::Rename(slot));
 }
 
 fn try_image(image: &[u8], s: Setting) {
-    try_slot(image, s, 0);
-    try_slot(image, s, 1);
-    try_slot(image, s, 2);
-    printing::print_command(b"rename ", 0);
-    try_command(image, s, Command::Rename(SlotNo(0)));
+    try_slot(image, s, SlotNo(0));
+    try_slot(image, s, SlotNo(1));
+    try_slot(image, s, SlotNo(2));
     io::write_all(STDOUT_FILENO, b"repair: ");
     try_command(image, s, Command::Repair);
 }
 
 fn try_file(path: &[u8], s: Setting) {
-    io::write_all(STDOUT_FILENO, path);
-    io::write_all(STDOUT_FILENO, b"\n");
+    printing::print_image(path, erase_cuts(s.granule));
     let mut image = image_buffer();
     let fd = os::open_read(path);
     let n = io::read_full(fd, &mut image);
@@ -218,7 +249,7 @@ fn try_file(path: &[u8], s: Setting) {
 
 fn main() {
     let s = Setting {
-        granule: 4096,
+        granule: SMALLEST,
         spt0: 0x4000,
         spt1: 0x5000,
     };

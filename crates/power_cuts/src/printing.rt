@@ -1,11 +1,19 @@
-// The line of a command.
+// The lines of an image and of a command.
 use super::tally::Tally;
 use commands::Outcome;
 use libc::STDOUT_FILENO;
+use rules::SlotNo;
 
-pub fn print_command(command: &[u8], slot: u32) {
+// The image, and after how many different numbers of bytes each erase is cut.
+pub fn print_image(path: &[u8], cuts: usize) {
+    io::write_all(STDOUT_FILENO, path);
+    io::write_all(STDOUT_FILENO, b", each erase cut ");
+    print_count(cuts as u64, b" times\n");
+}
+
+pub fn print_command(command: &[u8], slot: SlotNo) {
     io::write_all(STDOUT_FILENO, command);
-    io::print_decimal(STDOUT_FILENO, slot as u64);
+    io::print_decimal(STDOUT_FILENO, slot.0 as u64);
     io::write_all(STDOUT_FILENO, b": ");
 }
 

@@ -3,6 +3,7 @@ use book::Command;
 use book::Setting;
 use jobs::Next;
 use libc::STDOUT_FILENO;
+use rules::PlaceNo;
 use rules::SlotNo;
 use rules::Step;
 ghost use mathlib.Core.Path.{_≡_};
@@ -73,7 +74,7 @@ fn print_order(image: &[u8]) {
     printing::print_order(image, quarry());
 }
 
-fn print_place(image: &[u8], place: usize) {
+fn print_place(image: &[u8], place: PlaceNo) {
     io::write_all(STDOUT_FILENO, b"CPB0 ");
     printing::print_place(image, CPB0, place);
     io::write_all(STDOUT_FILENO, b"CPB1 ");
@@ -87,7 +88,7 @@ fn enable_first(image: &mut [u8]) {
     finish(image, Command::Enable(SlotNo(1)));
 }
 
-fn enable_third(image: &mut [u8], place: usize) {
+fn enable_third(image: &mut [u8], place: PlaceNo) {
     finish(image, Command::Enable(SlotNo(2)));
     print_place(image, place);
     print_order(image);
@@ -95,7 +96,7 @@ fn enable_third(image: &mut [u8], place: usize) {
 
 fn enable_then_disable(image: &mut [u8]) {
     finish(image, Command::Enable(SlotNo(0)));
-    print_place(image, 2);
+    print_place(image, PlaceNo(2));
     print_order(image);
     finish(image, Command::Disable(SlotNo(0)));
     print_order(image);
@@ -109,10 +110,10 @@ fn refused_slots(image: &mut [u8]) {
 
 fn cut_then_repaired(image: &mut [u8]) {
     cut(image, Command::Enable(SlotNo(2)), 15, 0);
-    print_place(image, 2);
+    print_place(image, PlaceNo(2));
     print_order(image);
     finish(image, Command::Repair);
-    enable_third(image, 3);
+    enable_third(image, PlaceNo(3));
 }
 
 fn rewrite_cut(image: &mut [u8], k: usize) {
@@ -130,7 +131,7 @@ fn names(image: &mut [u8]) {
 
 enum Case {
     EnableFirst,
-    EnableThird(usize),
+    EnableThird(PlaceNo),
     EnableThenDisable,
     RefusedSlots,
     CutThenRepaired,
@@ -165,19 +166,19 @@ fn on_image(title: &[u8], path: &[u8], case: Case) {
 
 fn main() {
     on_image(b"cases 1 and 3\n", b"quarry.img", Case::EnableFirst);
-    on_image(b"case 2\n", b"quarry.img", Case::EnableThird(2));
+    on_image(b"case 2\n", b"quarry.img", Case::EnableThird(PlaceNo(2)));
     on_image(b"case 4\n", b"quarry.img", Case::EnableThenDisable);
     on_image(b"case 5\n", b"quarry.img", Case::RefusedSlots);
     on_image(b"case 6\n", b"quarry.img", Case::CutThenRepaired);
     on_image(
         b"case 7, highest used place 506\n",
         b"highest_506.img",
-        Case::EnableThird(507),
+        Case::EnableThird(PlaceNo(507)),
     );
     on_image(
         b"case 7, highest used place 507\n",
         b"highest_507.img",
-        Case::EnableThird(507),
+        Case::EnableThird(PlaceNo(507)),
     );
     on_image(
         b"case 8, after 4,097 steps\n",

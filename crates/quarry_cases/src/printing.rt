@@ -1,21 +1,25 @@
 // What the cases print.
 use bench::Done;
+use book::Answer;
 use book::Command;
 use book::Setting;
+use book::order::Order;
+use book::order::ROOM;
 use libc::STDOUT_FILENO;
-use reading::Listed;
+use rules::PlaceNo;
+use rules::SlotNo;
 
-fn print_named(what: &[u8], slot: u32) {
+fn print_named(what: &[u8], slot: SlotNo) {
     io::write_all(STDOUT_FILENO, what);
-    io::print_decimal(STDOUT_FILENO, slot as u64);
+    io::print_decimal(STDOUT_FILENO, slot.0 as u64);
     io::write_all(STDOUT_FILENO, b": ");
 }
 
 pub fn print_command(command: Command) {
     match command {
-        Command::Enable(slot) => print_named(b"enable ", slot.0),
-        Command::Disable(slot) => print_named(b"disable ", slot.0),
-        Command::Rename(slot) => print_named(b"rename ", slot.0),
+        Command::Enable(slot) => print_named(b"enable ", slot),
+        Command::Disable(slot) => print_named(b"disable ", slot),
+        Command::Rename(slot) => print_named(b"rename ", slot),
         Command::Repair => {
             io::write_all(STDOUT_FILENO, b"repair: ");
         }
@@ -48,32 +52,35 @@ pub fn print_cut(steps: usize, k: usize) {
 
 // The boot order, or the refusal.
 pub fn print_order(image: &[u8], s: Setting) {
-    let mut row = [0u32; 8];
-    let listed = reading::order_list(image, s.granule, s.spt0, s.spt1, &mut row);
-    match listed {
-        Listed::Refused(number) => print_refusal(number),
-        Listed::Count(n) => {
+    let read = book::read_book(image, s);
+    let answer = read.answer;
+    let kept = read.book;
+    let order = kept.order;
+    match answer {
+        Answer::Refused(number) => print_refusal(number),
+        Answer::Given => {
             io::write_all(STDOUT_FILENO, b"order");
-            print_slots(row, n);
+            print_slots(order);
             io::write_all(STDOUT_FILENO, b"\n");
         }
     }
 }
 
-fn print_slots(row: [u32; 8], n: usize) {
+fn print_slots(order: Order) {
+    let row = order.row;
     let mut i = 0;
-    while i < 8 {
-        if n <= i {
+    while i < ROOM {
+        if order.count <= i {
             return;
         }
-        print_slot(row[i]);
+        print_slot(SlotNo(row[i]));
         i += 1;
     }
 }
 
-fn print_slot(slot: u32) {
+fn print_slot(slot: SlotNo) {
     io::write_all(STDOUT_FILENO, b" ");
-    io::print_decimal(STDOUT_FILENO, slot as u64);
+    io::print_decimal(STDOUT_FILENO, slot.0 as u64);
 }
 
 // The value of eight bytes; 0 where they pass the end.
@@ -88,20 +95,20 @@ fn value_at(image: &[u8], at: usize) -> u64 {
 }
 
 // What a place of the pointer block at an address holds.
-pub fn print_place(image: &[u8], block: usize, place: usize) {
+pub fn print_place(image: &[u8], block: usize, place: PlaceNo) {
     io::write_all(STDOUT_FILENO, b"place ");
-    io::print_decimal(STDOUT_FILENO, place as u64);
+    io::print_decimal(STDOUT_FILENO, place.0 as u64);
     io::write_all(STDOUT_FILENO, b": ");
     io::print_hex(STDOUT_FILENO, value_at(image, place_at(block, place)), 16);
     io::write_all(STDOUT_FILENO, b"\n");
 }
 
-fn place_at(block: usize, place: usize) -> usize {
+fn place_at(block: usize, place: PlaceNo) -> usize {
     if 0x100000 < block {
         return 0;
     }
-    if 508 <= place {
+    if 508 <= place.0 {
         return 0;
     }
-    block + 0x20 + 8 * place
+    block + 0x20 + 8 * place.0
 }

@@ -1,4 +1,5 @@
 -- What the answers of the code say: document 01's number and values for each case. Assumes nothing.
+use mathlib.Core.Bool.{Bool, true, false}
 use mathlib.Core.List.{List}
 use Prim.Native.Nat.{ℕ}
 use lib.ListN.{length}
@@ -37,3 +38,8 @@ counted (NotCounted n) = refused n
 unfoldable pub known : Known → Answer Facts
 known (Is f) = given f
 known (NotKnown n) = refused n
+
+-- the answer is a refusal
+unfoldable pub is-refused : {A : Type 0} → Answer A → Bool
+is-refused (refused n) = true
+is-refused (given a) = false

@@ -3,18 +3,15 @@ use super::Known;
 use rules::Facts;
 use rules::SlotNo;
 ghost use mathlib.Core.Path.{_≡_};
-ghost use Prim.Native.Nat.{_≤_};
-ghost use lib.ListN.{length};
-ghost use Rattle.rules.specs.Bytes.{block-size};
 ghost use Rattle.rules.specs.Answers.{given, unless};
 ghost use Rattle.rules.specs.Table.{rows};
 ghost use Rattle.rules.specs.Readers.{slot-there, facts, name-in};
-ghost use Rattle.walks.specs.Entries.{most-entries};
+ghost use Rattle.walks.specs.Entries.{HasEntries};
 ghost use Rattle.reading.specs.Answers.{known};
 
 // The entry number, start, length and flags of a slot.
 pub fn facts_in(t: &[u8], n: usize, slot: SlotNo) -> Known
-    requires { ⌜ (length (now t) ≡ block-size) × (n ≤ most-entries) ⌝ }
+    requires { ⌜ HasEntries (now t) n ⌝ }
     ensures { λ r. ⌜ known r
         ≡ unless 7 (slot-there (rows n (now (t .entry))) (slot .0)) (given (facts (rows n (now (t .entry))) (slot .0))) ⌝ }
 {
@@ -32,7 +29,7 @@ pub fn facts_in(t: &[u8], n: usize, slot: SlotNo) -> Known
 
 // The name of a slot up to its zero; an empty part of the table where there is no such slot.
 pub fn name_in(t: &[u8], n: usize, slot: SlotNo) -> &[u8]
-    requires { ⌜ (length (now t) ≡ block-size) × (n ≤ most-entries) ⌝ }
+    requires { ⌜ HasEntries (now t) n ⌝ }
     ensures { λ r. ⌜ now r ≡ name-in (rows n (now (t .entry))) (slot .0) ⌝ }
 {
     if !slot_there(t, n, slot) {
@@ -45,7 +42,7 @@ pub fn name_in(t: &[u8], n: usize, slot: SlotNo) -> &[u8]
 
 // The slot number is below the number of slots.
 fn slot_there(t: &[u8], n: usize, slot: SlotNo) -> bool
-    requires { ⌜ (length (now t) ≡ block-size) × (n ≤ most-entries) ⌝ }
+    requires { ⌜ HasEntries (now t) n ⌝ }
     ensures { λ r. ⌜ r ≡ slot-there (rows n (now (t .entry))) (slot .0) ⌝ }
 {
     let number = slot.0 as usize;

@@ -90,7 +90,7 @@ pub fn order_list(image: &[u8], granule: usize, spt0: usize, spt1: usize, row: &
             let pointers_at = v.pointers;
             let t = fields::block_at(image, table_at);
             let p = fields::block_at(image, pointers_at);
-            order::list_order(t, entries::entry_count(t), p, row)
+            order::list_order(t, p, row)
         }
     }
 }
@@ -105,7 +105,9 @@ pub fn slot_count(image: &[u8], granule: usize, spt0: usize, spt1: usize) -> Cou
         Viewed::At(v) => {
             let at = v.table;
             let t = fields::block_at(image, at);
-            Counted::Slots(slots::count_slots(t, entries::entry_count(t)))
+            let n = entries::entry_count(t);
+            let met = slots::count_slots(t, n);
+            Counted::Slots(met)
         }
     }
 }

@@ -1,5 +1,6 @@
 // Lines that change the image or the setting. The image lies at the front of its room.
 use super::bounds::least;
+use super::bounds::part_of;
 use super::desk;
 use super::desk::Desk;
 use super::desk::Setting;
@@ -62,14 +63,13 @@ fn new_setting(desk: Desk, granule: usize, spt0: usize, spt1: usize) -> Desk {
 
 fn put(desk: Desk, room: &mut [u8], at: usize, word: &[u8]) -> Desk {
     let length = least(desk.setting.length, room.len());
-    let n = word.len() / 2;
-    if length < at {
+    let part = part_of(length, at, word.len() / 2);
+    if !part.right {
         return desk::error(desk);
     }
-    if length - at < n {
-        return desk::error(desk);
-    }
-    script::hex::decode(word, &mut room[at..at + n]);
+    let from = part.from;
+    let to = part.to;
+    script::hex::decode(word, &mut room[from..to]);
     desk
 }
 

@@ -1,6 +1,10 @@
 // Answers on standard output, each a line.
 use super::bounds::least;
 use libc::STDOUT_FILENO;
+use rules::EntryNo;
+use rules::Facts;
+use rules::SlotNo;
+use script::answers::put_number;
 
 // The front of a buffer.
 fn write_front(out: &[u8], end: usize) {
@@ -8,53 +12,65 @@ fn write_front(out: &[u8], end: usize) {
     io::write_all(STDOUT_FILENO, &out[0..n]);
 }
 
+// The front of a buffer as a line.
+fn write_line(out: &mut [u8], end: usize) {
+    let after = text::put_byte(out, end, b'\n');
+    write_front(out, after);
+}
+
 // A word.
 pub fn print_word(word: &[u8]) {
-    io::write_all(STDOUT_FILENO, word);
-    io::write_all(STDOUT_FILENO, b"\n");
+    let mut out = [0u8; 64];
+    let end = text::put_bytes(&mut out, 0, word);
+    write_line(&mut out, end);
 }
 
 // A word and a number.
 pub fn print_number(word: &[u8], number: u64) {
     let mut out = [0u8; 64];
-    let mut end = text::put_bytes(&mut out, 0, word);
-    end = script::answers::put_number(&mut out, end, number);
-    end = text::put_byte(&mut out, end, b'\n');
-    write_front(&out, end);
+    let end = text::put_bytes(&mut out, 0, word);
+    let after = put_number(&mut out, end, number);
+    write_line(&mut out, after);
 }
 
-// A word and some numbers.
-pub fn print_numbers(word: &[u8], row: &[u32]) {
+// The number of a refusal.
+pub fn print_refused(number: u8) {
+    print_number(b"refused", number as u64);
+}
+
+// Slot numbers in their order.
+pub fn print_order(row: &[u32]) {
     let mut out = io::buffer();
-    let mut end = text::put_bytes(&mut out, 0, word);
-    end = script::answers::put_numbers(&mut out, end, row);
-    end = text::put_byte(&mut out, end, b'\n');
-    write_front(&out, end);
+    let end = text::put_bytes(&mut out, 0, b"order");
+    let after = script::answers::put_numbers(&mut out, end, row);
+    write_line(&mut out, after);
 }
 
 // A slot's number, entry, name and facts.
-pub fn print_slot(slot: u32, entry: usize, name: &[u8], start: u64, size: u64, flags: u64) {
+pub fn print_slot(slot: SlotNo, facts: Facts, name: &[u8]) {
     let mut out = [0u8; 256];
     let mut end = text::put_bytes(&mut out, 0, b"slot");
-    end = script::answers::put_number(&mut out, end, slot as u64);
-    end = script::answers::put_number(&mut out, end, entry as u64);
+    end = put_number(&mut out, end, slot.0 as u64);
+    end = put_number(&mut out, end, row_of(facts.entry));
     end = text::put_byte(&mut out, end, b' ');
     end = script::hex::put(&mut out, end, name);
-    end = script::answers::put_number(&mut out, end, start);
-    end = script::answers::put_number(&mut out, end, size);
-    end = script::answers::put_number(&mut out, end, flags);
-    end = text::put_byte(&mut out, end, b'\n');
-    write_front(&out, end);
+    end = put_number(&mut out, end, facts.start);
+    end = put_number(&mut out, end, facts.size);
+    end = put_number(&mut out, end, facts.flags);
+    write_line(&mut out, end);
+}
+
+fn row_of(entry: EntryNo) -> u64 {
+    entry.0 as u64
 }
 
 // The length of a dump and the sum of its bytes.
 pub fn print_dump(length: usize, sum: u64) {
     let mut out = [0u8; 64];
     let mut end = text::put_bytes(&mut out, 0, b"dump");
-    end = script::answers::put_number(&mut out, end, length as u64);
-    end = script::answers::put_number(&mut out, end, sum);
-    end = text::put_byte(&mut out, end, b'\n');
-    write_front(&out, end);
+    end = put_number(&mut out, end, length as u64);
+    end = put_number(&mut out, end, sum);
+    write_line(&mut out, end);
 }
 
 // Bytes in hexadecimal, however many.

@@ -1,5 +1,6 @@
 // Lines that ask and change nothing. Each function answers whether the line was right.
 use super::bounds::least;
+use super::bounds::part_of;
 use super::desk::Setting;
 use super::printing;
 use reading::Known;
@@ -12,15 +13,11 @@ pub fn ask(setting: Setting, room: &[u8], asked: Question) -> bool {
     let image = &room[0..length];
     match asked {
         Question::Order(places) => tell_order(setting, image, places),
-        Question::Slot(slot) => tell_slot(setting, image, SlotNo(slot)),
+        Question::Slot(slot) => tell_slot(setting, image, slot),
         Question::Peek(at, n) => tell_bytes(image, at, n),
         Question::Sum => tell_sum(image),
         Question::Dumps(a, m, b, n) => tell_dump(image, a, m, b, n),
     }
-}
-
-fn refused(number: u8) {
-    printing::print_number(b"refused", number as u64);
 }
 
 // The longest row.
@@ -43,10 +40,10 @@ fn tell_order_in(setting: Setting, image: &[u8], places: usize, row: &mut [u32])
         &mut row[0..n],
     );
     match listed {
-        Listed::Refused(number) => refused(number),
+        Listed::Refused(number) => printing::print_refused(number),
         Listed::Count(count) => {
             let end = least(count, row.len());
-            printing::print_numbers(b"order", &row[0..end]);
+            printing::print_order(&row[0..end]);
         }
     }
     true
@@ -58,24 +55,23 @@ fn tell_slot(setting: Setting, image: &[u8], slot: SlotNo) -> bool {
     let spt1 = setting.spt1;
     let known = reading::slot_facts(image, granule, spt0, spt1, slot);
     match known {
-        Known::Refused(number) => refused(number),
+        Known::Refused(number) => printing::print_refused(number),
         Known::Is(facts) => {
-            let entry = facts.entry;
             let name = reading::slot_name(image, granule, spt0, spt1, slot);
-            printing::print_slot(slot.0, entry.0, name, facts.start, facts.size, facts.flags);
+            printing::print_slot(slot, facts, name);
         }
     }
     true
 }
 
 fn tell_bytes(image: &[u8], at: usize, n: usize) -> bool {
-    if image.len() < at {
+    let part = part_of(image.len(), at, n);
+    if !part.right {
         return false;
     }
-    if image.len() - at < n {
-        return false;
-    }
-    printing::print_bytes(&image[at..at + n]);
+    let from = part.from;
+    let to = part.to;
+    printing::print_bytes(&image[from..to]);
     true
 }
 
@@ -85,19 +81,16 @@ fn tell_sum(image: &[u8]) -> bool {
 }
 
 fn tell_dump(image: &[u8], a: usize, m: usize, b: usize, n: usize) -> bool {
-    if image.len() < a {
+    let one = part_of(image.len(), a, m);
+    let other = part_of(image.len(), b, n);
+    if !(one.right & other.right) {
         return false;
     }
-    if image.len() - a < m {
-        return false;
-    }
-    if image.len() < b {
-        return false;
-    }
-    if image.len() - b < n {
-        return false;
-    }
-    let dump = dumps::standing_dump(&image[a..a + m], &image[b..b + n]);
+    let one_from = one.from;
+    let one_to = one.to;
+    let other_from = other.from;
+    let other_to = other.to;
+    let dump = dumps::standing_dump(&image[one_from..one_to], &image[other_from..other_to]);
     printing::print_dump(dump.len(), script::sum::fnv1a(dump));
     true
 }

@@ -16,7 +16,7 @@ pub fn start(desk: Desk, room: &[u8], asked: Command, line: &[u8]) -> Desk {
     let outcome = begun.answer;
     match outcome {
         Outcome::Refused(number) => {
-            printing::print_number(b"refused", number as u64);
+            printing::print_refused(number);
             desk::without_job(desk)
         }
         Outcome::Started => {
@@ -32,11 +32,11 @@ fn begin(setting: Setting, image: &[u8], asked: Command, line: &[u8]) -> Begun {
     let spt0 = setting.spt0;
     let spt1 = setting.spt1;
     match asked {
-        Command::Enable(slot) => commands::start_enable(image, granule, spt0, spt1, SlotNo(slot)),
-        Command::Disable(slot) => commands::start_disable(image, granule, spt0, spt1, SlotNo(slot)),
+        Command::Enable(slot) => commands::start_enable(image, granule, spt0, spt1, slot),
+        Command::Disable(slot) => commands::start_disable(image, granule, spt0, spt1, slot),
         Command::Rename(slot) => begin_rename(setting, image, slot, script::last_word(line)),
         Command::RenameToNothing(slot) => {
-            commands::start_rename(image, granule, spt0, spt1, SlotNo(slot), b"")
+            commands::start_rename(image, granule, spt0, spt1, slot, b"")
         }
         Command::Repair => commands::start_repair(image, granule, spt0, spt1),
     }
@@ -47,7 +47,7 @@ fn name_room() -> [u8; 8192] {
     [0; 8192]
 }
 
-fn begin_rename(setting: Setting, image: &[u8], slot: u32, word: &[u8]) -> Begun {
+fn begin_rename(setting: Setting, image: &[u8], slot: SlotNo, word: &[u8]) -> Begun {
     let mut name = name_room();
     begin_rename_to(setting, image, slot, word, &mut name)
 }
@@ -55,7 +55,7 @@ fn begin_rename(setting: Setting, image: &[u8], slot: u32, word: &[u8]) -> Begun
 fn begin_rename_to(
     setting: Setting,
     image: &[u8],
-    slot: u32,
+    slot: SlotNo,
     word: &[u8],
     name: &mut [u8],
 ) -> Begun {
@@ -66,7 +66,7 @@ fn begin_rename_to(
         setting.granule,
         setting.spt0,
         setting.spt1,
-        SlotNo(slot),
+        slot,
         &name[0..n],
     )
 }

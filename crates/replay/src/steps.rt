@@ -1,5 +1,6 @@
 // Lines that do steps of the current job.
 use super::bounds::least;
+use super::bounds::part_of;
 use super::changes;
 use super::desk;
 use super::desk::Desk;
@@ -27,7 +28,7 @@ fn run(desk: Desk, image: &mut [u8], budget: usize) -> Desk {
     let ran = jobs::run(job, image, budget);
     let did = ran.did;
     match did {
-        Did::Refused(number) => printing::print_number(b"refused", number as u64),
+        Did::Refused(number) => printing::print_refused(number),
         Did::Steps(n) => printing::print_number(b"ran", n as u64),
     }
     let after = ran.job;
@@ -74,11 +75,8 @@ fn tear_step(step: Step, granule: usize, image: &mut [u8], bytes: usize) {
 }
 
 fn erase_lowest(image: &mut [u8], at: usize, n: usize) {
-    if image.len() < at {
-        return;
-    }
-    if image.len() - at < n {
-        return;
-    }
-    changes::fill(&mut image[at..at + n], changes::ERASED);
+    let part = part_of(image.len(), at, n);
+    let from = part.from;
+    let to = part.to;
+    changes::fill(&mut image[from..to], changes::ERASED);
 }

@@ -1,9 +1,15 @@
 // One line of a replay script, taken apart, and the parts of an answer, put into a lent buffer.
-pub mod words; // words and decimal numbers
-mod lines; // the lines of each verb
+pub mod words; // where words begin and end
+mod numbers; // decimal numbers in them
+mod lines; // the forms of a line
 pub mod hex; // bytes as pairs of hexadecimal digits
 pub mod answers; // parts of an answer
 pub mod sum; // a sum of bytes
+
+use rules::SlotNo;
+ghost use mathlib.Core.Path.{_≡_};
+ghost use Rattle.script.specs.Words.{last-word};
+ghost use Rattle.script.specs.Lines.{line-of};
 
 // What a line does. A number is as it is written; whether it suits the image is judged elsewhere.
 pub enum Line {
@@ -27,7 +33,7 @@ pub enum Change {
 // `order` with the length of its row, `slot`, `peek`, `sum`, `dumps`.
 pub enum Question {
     Order(usize),
-    Slot(u32),
+    Slot(SlotNo),
     Peek(usize, usize),
     Sum,
     Dumps(usize, usize, usize, usize),
@@ -35,10 +41,10 @@ pub enum Question {
 
 // `enable`, `disable`, `rename` with the line's last word, `rename` with an empty name, `repair`.
 pub enum Command {
-    Enable(u32),
-    Disable(u32),
-    Rename(u32),
-    RenameToNothing(u32),
+    Enable(SlotNo),
+    Disable(SlotNo),
+    Rename(SlotNo),
+    RenameToNothing(SlotNo),
     Repair,
 }
 
@@ -48,7 +54,9 @@ pub enum Steps {
     Cut(usize, usize),
 }
 
-pub fn line_of(line: &[u8]) -> Line {
+pub fn line_of(line: &[u8]) -> Line
+    ensures { λ r. ⌜ r ≡ line-of (now (line .entry)) ⌝ }
+{
     if line.len() == 0 {
         return Line::Nothing;
     }
@@ -56,29 +64,20 @@ pub fn line_of(line: &[u8]) -> Line {
         return Line::Nothing;
     }
     let end = words::length_before(line, b' ');
-    let verb = &line[0..end];
-    let rest = &line[end..];
-    let asking = either(
-        lines::question_line(verb, rest),
-        lines::change_line(verb, rest),
-    );
-    let doing = either(
-        lines::command_line(verb, rest),
-        lines::steps_line(verb, rest),
-    );
-    either(asking, doing)
-}
-
-// A verb is in one of the groups, so of two readings at most one is no error.
-fn either(one: Line, other: Line) -> Line {
-    match one {
-        Line::Error => other,
-        _ => one,
-    }
+    let verb = &line[..end];
+    let row = numbers::numbers_of(line);
+    let hexed = numbers::numbers_before_bytes(line);
+    let mut said = Line::Error;
+    said = lines::change_line(verb, row, hexed, said);
+    said = lines::question_line(verb, row, said);
+    said = lines::command_line(verb, row, hexed, said);
+    lines::steps_line(verb, row, said)
 }
 
 // What stands after the last space of a line.
-pub fn last_word(line: &[u8]) -> &[u8] {
+pub fn last_word(line: &[u8]) -> &[u8]
+    ensures { λ r. ⌜ now r ≡ last-word (now (line .entry)) ⌝ }
+{
     let from = words::last_word_start(line);
     &line[from..]
 }

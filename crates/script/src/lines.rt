@@ -1,12 +1,15 @@
-// The lines of each verb: which numbers it takes.
+// The forms of a line. A form that fits takes the place of the line that was found by the forms before it.
 use super::Change;
 use super::Command;
 use super::Line;
 use super::Question;
 use super::Steps;
-use super::words;
-use super::words::Row;
-use super::words::Slot;
+use super::numbers::Row;
+use rules::SlotNo;
+ghost use mathlib.Core.Path.{_≡_};
+ghost use mathlib.Core.Bool.{cond};
+ghost use Prim.Native.Nat.{_%_};
+ghost use Rattle.script.specs.Lines.{takes, takes-slot, by-forms, change-forms, question-forms, command-forms, steps-forms};
 
 // The row of a bare `order`, and the longest row.
 const ROW_DEFAULT: usize = 127;
@@ -15,219 +18,153 @@ const ROW_MAX: usize = 508;
 
 const BYTE_MAX: usize = 255;
 
+const SLOT_MAX: usize = 4294967295;
+
+// ---- tests
+
+// The verb has this name, and so many numbers follow.
+fn takes(verb: &[u8], name: &[u8], row: Row, count: usize) -> bool
+    ensures { λ r. ⌜ r ≡ takes (now (verb .entry)) (now (name .entry)) row count ⌝ }
+{
+    check::same(verb, name) & row.numeric & (row.count == count)
+}
+
+// One number that a slot may have.
+fn takes_slot(verb: &[u8], name: &[u8], row: Row) -> bool
+    ensures { λ r. ⌜ r ≡ takes-slot (now (verb .entry)) (now (name .entry)) row ⌝ }
+{
+    takes(verb, name, row, 1) & (row.first <= SLOT_MAX)
+}
+
+fn form(fits: bool, does: Line, line: Line) -> Line
+    ensures { λ r. ⌜ r ≡ cond fits does line ⌝ }
+{
+    if fits {
+        return does;
+    }
+    line
+}
+
+// A number as a slot's, which a form that fits leaves as it is.
+fn slot_of(row: Row) -> SlotNo
+    ensures { λ r. ⌜ r .0 ≡ row .first % 4294967296 ⌝ }
+{
+    SlotNo((row.first % 4294967296) as u32)
+}
+
+// The same as a byte.
+fn byte_of(number: usize) -> u8
+    ensures { λ r. ⌜ r ≡ number % 256 ⌝ }
+{
+    (number % 256) as u8
+}
+
 // ---- lines that change the image or the setting
 
-pub fn change_line(verb: &[u8], rest: &[u8]) -> Line {
-    if check::same(verb, b"put") {
-        return put_line(rest);
-    }
-    let row = words::numbers_of(rest);
-    if check::same(verb, b"image") {
-        return image_line(row);
-    }
-    if check::same(verb, b"length") {
-        return length_line(row);
-    }
-    if check::same(verb, b"box") {
-        return setting_line(row);
-    }
-    if check::same(verb, b"copy") {
-        return copy_line(row);
-    }
-    Line::Error
-}
-
-fn put_line(rest: &[u8]) -> Line {
-    let row = words::numbers_before_hex(rest);
-    match row {
-        Row::One(address) => Line::Change(Change::Put(address)),
-        _ => Line::Error,
-    }
-}
-
-fn image_line(row: Row) -> Line {
-    match row {
-        Row::Two(length, byte) => {
-            if BYTE_MAX < byte {
-                return Line::Error;
-            }
-            Line::Change(Change::Image(length, byte as u8))
-        }
-        _ => Line::Error,
-    }
-}
-
-fn length_line(row: Row) -> Line {
-    match row {
-        Row::One(length) => Line::Change(Change::Length(length)),
-        _ => Line::Error,
-    }
-}
-
-fn setting_line(row: Row) -> Line {
-    match row {
-        Row::Three(granule, spt0, spt1) => Line::Change(Change::Setting(granule, spt0, spt1)),
-        _ => Line::Error,
-    }
-}
-
-fn copy_line(row: Row) -> Line {
-    match row {
-        Row::Three(from, to, length) => Line::Change(Change::Copy(from, to, length)),
-        _ => Line::Error,
-    }
+pub fn change_line(verb: &[u8], row: Row, hexed: Row, otherwise: Line) -> Line
+    ensures { λ r. ⌜ r ≡ by-forms (change-forms (now (verb .entry)) row hexed) otherwise ⌝ }
+{
+    let byte = takes(verb, b"image", row, 2) & (row.second <= BYTE_MAX);
+    let image = Change::Image(row.first, byte_of(row.second));
+    let setting = Change::Setting(row.first, row.second, row.third);
+    let copy = Change::Copy(row.first, row.second, row.third);
+    let mut line = otherwise;
+    line = form(byte, Line::Change(image), line);
+    line = form(
+        takes(verb, b"length", row, 1),
+        Line::Change(Change::Length(row.first)),
+        line,
+    );
+    line = form(takes(verb, b"box", row, 3), Line::Change(setting), line);
+    line = form(
+        takes(verb, b"put", hexed, 1),
+        Line::Change(Change::Put(hexed.first)),
+        line,
+    );
+    form(takes(verb, b"copy", row, 3), Line::Change(copy), line)
 }
 
 // ---- lines that ask and change nothing
 
-pub fn question_line(verb: &[u8], rest: &[u8]) -> Line {
-    let row = words::numbers_of(rest);
-    if check::same(verb, b"order") {
-        return order_line(row);
-    }
-    if check::same(verb, b"slot") {
-        return slot_line(row);
-    }
-    if check::same(verb, b"peek") {
-        return peek_line(row);
-    }
-    if check::same(verb, b"sum") {
-        return sum_line(row);
-    }
-    if check::same(verb, b"dumps") {
-        return dumps_line(row);
-    }
-    Line::Error
-}
-
-fn order_line(row: Row) -> Line {
-    match row {
-        Row::None => Line::Question(Question::Order(ROW_DEFAULT)),
-        Row::One(length) => {
-            if ROW_MAX < length {
-                return Line::Error;
-            }
-            Line::Question(Question::Order(length))
-        }
-        _ => Line::Error,
-    }
-}
-
-fn slot_line(row: Row) -> Line {
-    let slot = words::slot_of(row);
-    match slot {
-        Slot::No(number) => Line::Question(Question::Slot(number)),
-        Slot::Wrong => Line::Error,
-    }
-}
-
-fn peek_line(row: Row) -> Line {
-    match row {
-        Row::Two(address, length) => Line::Question(Question::Peek(address, length)),
-        _ => Line::Error,
-    }
-}
-
-fn sum_line(row: Row) -> Line {
-    match row {
-        Row::None => Line::Question(Question::Sum),
-        _ => Line::Error,
-    }
-}
-
-fn dumps_line(row: Row) -> Line {
-    match row {
-        Row::Four(a, a_length, b, b_length) => {
-            Line::Question(Question::Dumps(a, a_length, b, b_length))
-        }
-        _ => Line::Error,
-    }
+pub fn question_line(verb: &[u8], row: Row, otherwise: Line) -> Line
+    ensures { λ r. ⌜ r ≡ by-forms (question-forms (now (verb .entry)) row) otherwise ⌝ }
+{
+    let fits = takes(verb, b"order", row, 1) & (row.first <= ROW_MAX);
+    let slot = Question::Slot(slot_of(row));
+    let peek = Question::Peek(row.first, row.second);
+    let dumps = Question::Dumps(row.first, row.second, row.third, row.fourth);
+    let mut line = otherwise;
+    line = form(
+        takes(verb, b"order", row, 0),
+        Line::Question(Question::Order(ROW_DEFAULT)),
+        line,
+    );
+    line = form(fits, Line::Question(Question::Order(row.first)), line);
+    line = form(takes_slot(verb, b"slot", row), Line::Question(slot), line);
+    line = form(takes(verb, b"peek", row, 2), Line::Question(peek), line);
+    line = form(
+        takes(verb, b"sum", row, 0),
+        Line::Question(Question::Sum),
+        line,
+    );
+    form(takes(verb, b"dumps", row, 4), Line::Question(dumps), line)
 }
 
 // ---- lines that start a job
 
-pub fn command_line(verb: &[u8], rest: &[u8]) -> Line {
-    let row = words::numbers_of(rest);
-    if check::same(verb, b"enable") {
-        return enable_line(row);
-    }
-    if check::same(verb, b"disable") {
-        return disable_line(row);
-    }
-    if check::same(verb, b"rename") {
-        return rename_line(row, rest);
-    }
-    if check::same(verb, b"repair") {
-        return repair_line(row);
-    }
-    Line::Error
-}
-
-fn enable_line(row: Row) -> Line {
-    let slot = words::slot_of(row);
-    match slot {
-        Slot::No(number) => Line::Command(Command::Enable(number)),
-        Slot::Wrong => Line::Error,
-    }
-}
-
-fn disable_line(row: Row) -> Line {
-    let slot = words::slot_of(row);
-    match slot {
-        Slot::No(number) => Line::Command(Command::Disable(number)),
-        Slot::Wrong => Line::Error,
-    }
-}
-
-// With one word only the name is empty.
-fn rename_line(row: Row, rest: &[u8]) -> Line {
-    let slot = words::slot_of(row);
-    match slot {
-        Slot::No(number) => Line::Command(Command::RenameToNothing(number)),
-        Slot::Wrong => named_line(rest),
-    }
-}
-
-fn named_line(rest: &[u8]) -> Line {
-    let slot = words::slot_of(words::numbers_before_hex(rest));
-    match slot {
-        Slot::No(number) => Line::Command(Command::Rename(number)),
-        Slot::Wrong => Line::Error,
-    }
-}
-
-fn repair_line(row: Row) -> Line {
-    match row {
-        Row::None => Line::Command(Command::Repair),
-        _ => Line::Error,
-    }
+pub fn command_line(verb: &[u8], row: Row, hexed: Row, otherwise: Line) -> Line
+    ensures { λ r. ⌜ r ≡ by-forms (command-forms (now (verb .entry)) row hexed) otherwise ⌝ }
+{
+    let slot = slot_of(row);
+    let named = slot_of(hexed);
+    let mut line = otherwise;
+    line = form(
+        takes_slot(verb, b"enable", row),
+        Line::Command(Command::Enable(slot)),
+        line,
+    );
+    line = form(
+        takes_slot(verb, b"disable", row),
+        Line::Command(Command::Disable(slot)),
+        line,
+    );
+    line = form(
+        takes_slot(verb, b"rename", hexed),
+        Line::Command(Command::Rename(named)),
+        line,
+    );
+    line = form(
+        takes_slot(verb, b"rename", row),
+        Line::Command(Command::RenameToNothing(slot)),
+        line,
+    );
+    form(
+        takes(verb, b"repair", row, 0),
+        Line::Command(Command::Repair),
+        line,
+    )
 }
 
 // ---- lines that do steps of the current job
 
-pub fn steps_line(verb: &[u8], rest: &[u8]) -> Line {
-    let row = words::numbers_of(rest);
-    if check::same(verb, b"run") {
-        return run_line(row);
-    }
-    if check::same(verb, b"cut") {
-        return cut_line(row);
-    }
-    Line::Error
-}
-
-fn run_line(row: Row) -> Line {
-    match row {
-        Row::One(budget) => Line::Steps(Steps::Run(budget)),
-        _ => Line::Error,
-    }
-}
-
 // A cut before a step is one of 0 bytes inside it.
-fn cut_line(row: Row) -> Line {
-    match row {
-        Row::One(steps) => Line::Steps(Steps::Cut(steps, 0)),
-        Row::Two(steps, bytes) => Line::Steps(Steps::Cut(steps, bytes)),
-        _ => Line::Error,
-    }
+pub fn steps_line(verb: &[u8], row: Row, otherwise: Line) -> Line
+    ensures { λ r. ⌜ r ≡ by-forms (steps-forms (now (verb .entry)) row) otherwise ⌝ }
+{
+    let mut line = otherwise;
+    line = form(
+        takes(verb, b"run", row, 1),
+        Line::Steps(Steps::Run(row.first)),
+        line,
+    );
+    line = form(
+        takes(verb, b"cut", row, 1),
+        Line::Steps(Steps::Cut(row.first, 0)),
+        line,
+    );
+    form(
+        takes(verb, b"cut", row, 2),
+        Line::Steps(Steps::Cut(row.first, row.second)),
+        line,
+    )
 }

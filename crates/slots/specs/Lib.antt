@@ -1,2 +1,2 @@
 pub mod Initials
-pub mod Ends
+pub mod RowsOf

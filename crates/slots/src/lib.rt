@@ -7,17 +7,19 @@ ghost use Prim.Native.Nat.{_≤_, _<_};
 ghost use lib.ListN.{length, getD};
 ghost use Rattle.rules.specs.Lists.{member};
 ghost use Rattle.rules.specs.Bytes.{block-size, up-to-zero};
-ghost use Rattle.rules.specs.Table.{rows, name, is-fixed-name, is-slot, slots};
+ghost use Rattle.rules.specs.Table.{entry-count, rows, entries, is-fixed-name, is-slot, slots};
 ghost use Rattle.rules.specs.Readers.{slot-row};
 ghost use Rattle.walks.specs.Find.{find};
-ghost use Rattle.walks.specs.Entries.{entry-at, most-entries, slot-from};
+ghost use Rattle.walks.specs.Last.{last-from};
+ghost use Rattle.walks.specs.Entries.{entry-at, most-entries, HasEntries, slot-from};
 ghost use Rattle.slots.specs.Initials.{initials};
-ghost use Rattle.slots.specs.Ends.{SlotsFrom, Ends};
+ghost use Rattle.slots.specs.RowsOf.{slots-before, rows-of, HasRows};
 
-// The slots at the end of a table: the entries from `from` on are all slots, and `before` slots come before them.
-// A table has its slots last as a rule, so that most slot numbers follow from entry numbers without a count.
-pub struct LastSlots {
-    pub from: usize,
+// The rows of a table: how many entries count; the entry from which on all of them are slots; how many slots come before
+// it. A table has its slots last as a rule, so that most slot numbers follow from entry numbers without a count.
+pub struct Rows {
+    pub count: usize,
+    pub from: EntryNo,
     pub before: usize,
 }
 
@@ -64,7 +66,7 @@ pub fn is_slot(table: &[u8], e: EntryNo) -> bool
 
 // How many of the first n entries are slots.
 pub fn count_slots(table: &[u8], n: usize) -> usize
-    requires { ⌜ (length (now table) ≡ block-size) × (n ≤ most-entries) ⌝ }
+    requires { ⌜ HasEntries (now table) n ⌝ }
     ensures { λ r. ⌜ (r ≡ length (slots (rows n (now (table .entry))))) × (r ≤ n) ⌝ }
 {
     let mut met = 0;
@@ -78,7 +80,7 @@ pub fn count_slots(table: &[u8], n: usize) -> usize
 
 // The number of the first of n entries that is a slot and starts there; n where none does.
 pub fn find_slot(table: &[u8], n: usize, start: u64) -> EntryNo
-    requires { ⌜ (length (now table) ≡ block-size) × (n ≤ most-entries) ⌝ }
+    requires { ⌜ HasEntries (now table) n ⌝ }
     ensures found { λ r. ⌜ r .0 ≡ find (slot-from start) (rows n (now (table .entry))) ⌝ }
     ensures within { λ r. ⌜ r .0 ≤ n ⌝ }
 {
@@ -94,7 +96,7 @@ pub fn find_slot(table: &[u8], n: usize, start: u64) -> EntryNo
 
 // The entry number of a slot; n where there is no such slot.
 pub fn slot_row(table: &[u8], n: usize, slot: SlotNo) -> EntryNo
-    requires { ⌜ (length (now table) ≡ block-size) × (n ≤ most-entries) ⌝ }
+    requires { ⌜ HasEntries (now table) n ⌝ }
     ensures found { λ r. ⌜ r .0 ≡ slot-row (rows n (now (table .entry))) (slot .0) ⌝ }
     ensures within { λ r. ⌜ r .0 ≤ n ⌝ }
 {
@@ -134,61 +136,66 @@ fn one_if(test: bool) -> usize
 
 // ---- the slots at the end
 
-// The slots at the end of the first n entries.
-pub fn last_slots(table: &[u8], n: usize) -> LastSlots
-    requires { ⌜ (length (now table) ≡ block-size) × (n ≤ most-entries) ⌝ }
-    ensures { λ r. ⌜ Ends (now (table .entry)) n r ⌝ }
+// The rows of a table, of which all entries count that it says it has.
+pub fn rows_of(table: &[u8]) -> Rows
+    requires { ⌜ HasEntries (now table) (entry-count (now table)) ⌝ }
+    ensures { λ r. ⌜ r ≡ rows-of (now (table .entry)) ⌝ }
 {
+    let n = entries::entry_count(table);
     let from = last_from(table, n);
-    LastSlots {
+    Rows {
+        count: n,
         from: from,
-        before: count_slots(table, from),
+        before: count_slots(table, from.0),
     }
 }
 
-// The first of the entries from which on all are slots.
-fn last_from(table: &[u8], n: usize) -> usize
-    requires { ⌜ (length (now table) ≡ block-size) × (n ≤ most-entries) ⌝ }
-    ensures { λ r. ⌜ SlotsFrom (now (table .entry)) n r ⌝ }
-{
-    let mut from = n;
-    while 0 < from {
-        if !is_slot(table, EntryNo(from - 1)) {
-            return from;
-        }
-        from -= 1;
-    }
-    0
-}
-
-// How many slots come before an entry.
-pub fn slots_before(table: &[u8], n: usize, last: LastSlots, e: EntryNo) -> usize
-    requires { ⌜ ((length (now table) ≡ block-size) × (n ≤ most-entries)) × (Ends (now table) n last × (e .0 ≤ n)) ⌝ }
-    ensures { λ r. ⌜ (r ≡ length (slots (rows (e .0) (now (table .entry))))) × (r ≤ n) ⌝ }
-{
-    if last.from <= e.0 {
-        return last.before + (e.0 - last.from);
-    }
-    count_slots(table, e.0)
-}
-
-// How many slots the first n entries have.
-pub fn slot_total(table: &[u8], n: usize, last: LastSlots) -> usize
-    requires { ⌜ ((length (now table) ≡ block-size) × (n ≤ most-entries)) × Ends (now table) n last ⌝ }
-    ensures { λ r. ⌜ (r ≡ length (slots (rows n (now (table .entry))))) × (r ≤ n) ⌝ }
-{
-    slots_before(table, n, last, EntryNo(n))
-}
-
-// The entry number of a slot; n where there is no such slot.
-pub fn row_of(table: &[u8], n: usize, last: LastSlots, slot: SlotNo) -> EntryNo
-    requires { ⌜ ((length (now table) ≡ block-size) × (n ≤ most-entries)) × Ends (now table) n last ⌝ }
-    ensures found { λ r. ⌜ r .0 ≡ slot-row (rows n (now (table .entry))) (slot .0) ⌝ }
+// The lowest of the first n entries from which on all are slots; n where the last is none.
+fn last_from(table: &[u8], n: usize) -> EntryNo
+    requires { ⌜ HasEntries (now table) n ⌝ }
+    ensures found { λ r. ⌜ r .0 ≡ last-from is-slot (rows n (now (table .entry))) ⌝ }
     ensures within { λ r. ⌜ r .0 ≤ n ⌝ }
 {
-    let number = slot.0 as usize;
-    if (last.before <= number) & (number < slot_total(table, n, last)) {
-        return EntryNo(last.from + (number - last.before));
+    let mut i = n;
+    while 0 < i {
+        if !is_slot(table, EntryNo(i - 1)) {
+            return EntryNo(i);
+        }
+        i -= 1;
     }
-    slot_row(table, n, slot)
+    EntryNo(0)
+}
+
+// The number of the slot at an entry: as many slots come before it.
+pub fn slot_at(table: &[u8], rows: Rows, e: EntryNo) -> SlotNo
+    requires { ⌜ HasRows (now table) rows × (e .0 < rows .count) ⌝ }
+    ensures { λ r. ⌜ r .0 ≡ slots-before (now (table .entry)) (e .0) ⌝ }
+{
+    if rows.from.0 <= e.0 {
+        let further = e.0 - rows.from.0;
+        return SlotNo((rows.before + further) as u32);
+    }
+    SlotNo(count_slots(table, e.0) as u32)
+}
+
+// How many slots there are: those before, and the entries from there on.
+pub fn slot_total(table: &[u8], rows: Rows) -> usize
+    requires { ⌜ HasRows (now table) rows ⌝ }
+    ensures { λ r. ⌜ (r ≡ length (slots (entries (now (table .entry))))) × (r ≤ rows .count) ⌝ }
+{
+    rows.before + (rows.count - rows.from.0)
+}
+
+// The entry number of a slot; the count of entries where there is no such slot.
+pub fn row_of(table: &[u8], rows: Rows, slot: SlotNo) -> EntryNo
+    requires { ⌜ HasRows (now table) rows ⌝ }
+    ensures found { λ r. ⌜ r .0 ≡ slot-row (entries (now (table .entry))) (slot .0) ⌝ }
+    ensures within { λ r. ⌜ r .0 ≤ rows .count ⌝ }
+{
+    let number = slot.0 as usize;
+    if (rows.before <= number) & (number < slot_total(table, rows)) {
+        let further = number - rows.before;
+        return EntryNo(rows.from.0 + further);
+    }
+    slot_row(table, rows.count, slot)
 }

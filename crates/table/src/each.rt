@@ -5,12 +5,12 @@ use super::naming;
 use super::ranges;
 use rules::EntryNo;
 ghost use mathlib.Core.Path.{_≡_};
-ghost use Prim.Native.Nat.{_+_, _≤_, _<_};
+ghost use Prim.Native.Nat.{_+_, _<_};
 ghost use lib.ListN.{length, drop};
 ghost use Rattle.rules.specs.Lists.{all, pairwise};
 ghost use Rattle.rules.specs.Bytes.{block-size};
 ghost use Rattle.rules.specs.Table.{rows};
-ghost use Rattle.walks.specs.Entries.{entry-at, most-entries};
+ghost use Rattle.walks.specs.Entries.{entry-at, most-entries, HasEntries};
 ghost use Rattle.table.specs.Rules.{keeps, both-keep};
 
 fn entry_keeps(rule: Rule, table: &[u8], e: EntryNo) -> bool
@@ -39,7 +39,7 @@ fn pair_keeps(rule: PairRule, table: &[u8], d: EntryNo, e: EntryNo) -> bool
 
 // Each of the first n entries keeps the rule.
 pub fn all_keep(rule: Rule, table: &[u8], n: usize) -> bool
-    requires { ⌜ (length (now table) ≡ block-size) × (n ≤ most-entries) ⌝ }
+    requires { ⌜ HasEntries (now table) n ⌝ }
     ensures { λ r. ⌜ r ≡ all (keeps rule) (rows n (now (table .entry))) ⌝ }
 {
     let mut i = 0;
@@ -54,7 +54,7 @@ pub fn all_keep(rule: Rule, table: &[u8], n: usize) -> bool
 
 // Each two of the first n entries keep the rule.
 pub fn pairs_keep(rule: PairRule, table: &[u8], n: usize) -> bool
-    requires { ⌜ (length (now table) ≡ block-size) × (n ≤ most-entries) ⌝ }
+    requires { ⌜ HasEntries (now table) n ⌝ }
     ensures { λ r. ⌜ r ≡ pairwise (both-keep rule) (rows n (now (table .entry))) ⌝ }
 {
     let mut i = 0;
@@ -69,7 +69,7 @@ pub fn pairs_keep(rule: PairRule, table: &[u8], n: usize) -> bool
 
 // An entry keeps the rule with each later one of the first n.
 fn later_keep(rule: PairRule, table: &[u8], n: usize, d: EntryNo) -> bool
-    requires { ⌜ (length (now table) ≡ block-size) × ((n ≤ most-entries) × (d .0 < n)) ⌝ }
+    requires { ⌜ HasEntries (now table) n × (d .0 < n) ⌝ }
     ensures { λ r. ⌜ r
         ≡ all (both-keep rule (entry-at (now (table .entry)) (d .0)))
         (drop (d .0 + 1) (rows n (now (table .entry)))) ⌝ }

@@ -7,7 +7,7 @@ ghost use lib.ListN.{length};
 ghost use Rattle.rules.specs.Bytes.{block, block-size};
 ghost use Rattle.rules.specs.Numbers.{setting};
 ghost use Rattle.rules.specs.Table.{rows, header-right, count-right, entries-stand, table-stands};
-ghost use Rattle.walks.specs.Entries.{most-entries};
+ghost use Rattle.walks.specs.Entries.{HasEntries};
 
 mod each;
 mod naming;
@@ -63,7 +63,7 @@ pub fn table_stands(image: &[u8], at: usize, granule: usize, spt0: usize, spt1: 
 // Rules 3 to 11, over the first n entries. Here and below tests are joined by `&` and `|`, which take both sides:
 // no read depends on a test, and a proof needs no case for each.
 fn entries_stand(table: &[u8], n: usize, len: u64, granule: u64, spt0: u64, spt1: u64) -> bool
-    requires { ⌜ ((length (now table) ≡ block-size) × (n ≤ most-entries)) × (0 < granule) ⌝ }
+    requires { ⌜ HasEntries (now table) n × (0 < granule) ⌝ }
     ensures { λ r. ⌜ r ≡ entries-stand (setting granule spt0 spt1) len (rows n (now (table .entry))) ⌝ }
 {
     each::all_keep(Rule::NameRight, table, n)

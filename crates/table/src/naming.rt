@@ -4,12 +4,12 @@ use super::Rule;
 use super::each;
 use rules::EntryNo;
 ghost use mathlib.Core.Path.{_≡_};
-ghost use Prim.Native.Nat.{_≤_, _<_};
+ghost use Prim.Native.Nat.{_<_};
 ghost use lib.ListN.{length, drop};
 ghost use Rattle.rules.specs.Lists.{all, pairwise};
 ghost use Rattle.rules.specs.Bytes.{block-size};
 ghost use Rattle.rules.specs.Table.{rows, name-right, names-differ};
-ghost use Rattle.walks.specs.Entries.{entry-at, most-entries};
+ghost use Rattle.walks.specs.Entries.{entry-at, most-entries, HasEntries};
 ghost use Rattle.table.specs.Padding.{is-zero, padded, fields-differ};
 
 // Rule 3: the name has at least one byte before a zero within the 16.
@@ -32,7 +32,7 @@ pub fn names_differ(table: &[u8], d: EntryNo, e: EntryNo) -> bool
 // Each two of the first n names differ. Where each is followed by zeros alone, as they mostly are, its field is
 // compared as it stands, eight bytes at a time.
 pub fn all_differ(table: &[u8], n: usize) -> bool
-    requires { ⌜ (length (now table) ≡ block-size) × (n ≤ most-entries) ⌝ }
+    requires { ⌜ HasEntries (now table) n ⌝ }
     ensures { λ r. ⌜ r ≡ pairwise names-differ (rows n (now (table .entry))) ⌝ }
 {
     if each::all_keep(Rule::NamePadded, table, n) {

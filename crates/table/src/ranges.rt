@@ -4,12 +4,12 @@ use super::each;
 use super::ends_by;
 use rules::EntryNo;
 ghost use mathlib.Core.Path.{_≡_};
-ghost use Prim.Native.Nat.{_≤_, _<_};
+ghost use Prim.Native.Nat.{_<_};
 ghost use lib.ListN.{length};
 ghost use Rattle.rules.specs.Lists.{pairwise};
 ghost use Rattle.rules.specs.Bytes.{block-size};
 ghost use Rattle.rules.specs.Table.{rows, range-aligned, range-inside, ranges-apart};
-ghost use Rattle.walks.specs.Entries.{entry-at, most-entries};
+ghost use Rattle.walks.specs.Entries.{entry-at, most-entries, HasEntries};
 ghost use Rattle.table.specs.Ascending.{neighbours, ends-before};
 
 // The unit of every start and length.
@@ -59,7 +59,7 @@ pub fn ranges_are_apart(table: &[u8], d: EntryNo, e: EntryNo) -> bool
 
 // Each of the first n ranges ends before the next.
 fn ranges_ascend(table: &[u8], n: usize) -> bool
-    requires { ⌜ (length (now table) ≡ block-size) × (n ≤ most-entries) ⌝ }
+    requires { ⌜ HasEntries (now table) n ⌝ }
     ensures { λ r. ⌜ r ≡ neighbours ends-before (rows n (now (table .entry))) ⌝ }
 {
     let mut i = 0;
@@ -75,7 +75,7 @@ fn ranges_ascend(table: &[u8], n: usize) -> bool
 // No two of the first n ranges overlap. In a table whose ranges ascend, as they mostly do, one walk tells; else each
 // two are compared.
 pub fn all_are_apart(table: &[u8], n: usize) -> bool
-    requires { ⌜ (length (now table) ≡ block-size) × (n ≤ most-entries) ⌝ }
+    requires { ⌜ HasEntries (now table) n ⌝ }
     ensures { λ r. ⌜ r ≡ pairwise ranges-apart (rows n (now (table .entry))) ⌝ }
 {
     if ranges_ascend(table, n) {

@@ -3,18 +3,18 @@ use super::SixEntries;
 use rules::EntryNo;
 ghost use mathlib.Core.Path.{_≡_};
 ghost use mathlib.Core.Bool.{_&&_};
-ghost use Prim.Native.Nat.{_≤_, _<_};
+ghost use Prim.Native.Nat.{_<_};
 ghost use lib.Dec.{eqb};
 ghost use lib.ListN.{length};
 ghost use Rattle.rules.specs.Bytes.{block-size};
 ghost use Rattle.rules.specs.Numbers.{setting};
 ghost use Rattle.rules.specs.Table.{rows, on-granules};
-ghost use Rattle.walks.specs.Entries.{entry-at, most-entries};
+ghost use Rattle.walks.specs.Entries.{entry-at, most-entries, HasEntries};
 ghost use Rattle.table.specs.Six.{Found, Below, below, six-right};
 
 // The first n entries keep rules 8 to 11: where one of the six is not among them there is nothing to judge.
 pub fn six_keep(table: &[u8], n: usize, granule: u64, spt0: u64, spt1: u64) -> bool
-    requires { ⌜ ((length (now table) ≡ block-size) × (n ≤ most-entries)) × (0 < granule) ⌝ }
+    requires { ⌜ HasEntries (now table) n × (0 < granule) ⌝ }
     ensures { λ r. ⌜ r ≡ six-right (setting granule spt0 spt1) (rows n (now (table .entry))) ⌝ }
 {
     let six = find_six(table, n);
@@ -27,7 +27,7 @@ pub fn six_keep(table: &[u8], n: usize, granule: u64, spt0: u64, spt1: u64) -> b
 }
 
 fn find_six(table: &[u8], n: usize) -> SixEntries
-    requires { ⌜ (length (now table) ≡ block-size) × (n ≤ most-entries) ⌝ }
+    requires { ⌜ HasEntries (now table) n ⌝ }
     ensures { λ r. ⌜ Found (rows n (now (table .entry))) r ⌝ }
 {
     let boot = entries::find_named(table, n, b"BOOT_INFO");

@@ -1,7 +1,7 @@
 -- The first n entries of a table, one by one: the turn and the end of a loop over an entry number. Assumes nothing.
 use mathlib.Core.Path.{_≡_, refl, sym, ap, _∙_}
 use mathlib.Core.List.{List, [], _∷_}
-use Prim.Native.Nat.{ℕ, zero, suc, _+_, _≤_, _<_}
+use Prim.Native.Nat.{ℕ, zero, suc, _+_, _-_, _≤_, _<_}
 use native.Mathlib.Nat.{le-of-suc-le-suc, not-suc-le-zero}
 use native.Mathlib.Omega.{arith}
 use lib.ListN.{getD, take, drop, drop-of-length-le}
@@ -23,6 +23,13 @@ module _ (n i : ℕ) (t : List ℕ) where
   pub entries-turn : i < n → drop i (rows n t) ≡ entry-at t i ∷ drop (i + 1) (rows n t)
   unfolding entries-from entry-at
   entries-turn h = rows-turn 32 entry entries-from (λ n bs. refl) n i 0x20 t h
+
+  -- the same on the way down
+  pub entries-down : 0 < i → i ≤ n → drop (i - 1) (rows n t) ≡ entry-at t (i - 1) ∷ drop i (rows n t)
+  unfolding entries-from entry-at
+  entries-down some h =
+      let e : i - 1 + 1 ≡ i = omega arith in
+      rw e at (rows-turn 32 entry entries-from (λ n bs. refl) n (i - 1) 0x20 t (omega arith))
 
   -- and its end
   pub entries-end : n ≤ i → drop i (rows n t) ≡ []

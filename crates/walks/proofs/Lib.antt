@@ -4,4 +4,5 @@ pub mod Loops
 pub mod Rows
 pub mod Entries
 pub mod Find
+pub mod Last
 pub mod Slots

@@ -126,6 +126,18 @@ impl Setting {
     /// The name of a slot, up to its zero.
     pub fn slot_name(&self, image: &[u8], slot: u32) -> Result<Vec<u8>, Refused> {
         let mut name = vec![0; NAME_MAX];
+        let count = self.slot_name_into(image, slot, &mut name)?;
+        name.truncate(count);
+        Ok(name)
+    }
+
+    /// The same into the front of lent bytes, and its length: refused 91 if they are too few.
+    pub fn slot_name_into(
+        &self,
+        image: &[u8],
+        slot: u32,
+        name: &mut [u8],
+    ) -> Result<usize, Refused> {
         let mut count = 0;
         let number = unsafe {
             raw::delunkpawi_slot_name(
@@ -140,8 +152,7 @@ impl Setting {
                 &mut count,
             )
         };
-        name.truncate(count);
-        answer(number, name)
+        answer(number, count)
     }
 
     /// A job by which a slot comes first in the boot order.
@@ -258,7 +269,7 @@ impl Job {
         answer(number, step)
     }
 
-    /// Does so many steps, or all that remain, on the image, and tells how many.
+    /// Does so many steps, or all that remain, on an image in memory, and tells how many.
     pub fn run(&mut self, image: &mut [u8], budget: usize) -> Result<usize, Refused> {
         let mut done = 0;
         let number = unsafe {
@@ -272,5 +283,14 @@ impl Job {
             )
         };
         answer(number, done)
+    }
+
+    /// Counts so many steps that a driver carried out itself, in their order, or all that remain; tells how many.
+    pub fn advance(&mut self, steps: usize) -> Result<usize, Refused> {
+        let mut count = 0;
+        let number = unsafe {
+            raw::delunkpawi_advance(self.bytes.as_mut_ptr(), self.bytes.len(), steps, &mut count)
+        };
+        answer(number, count)
     }
 }

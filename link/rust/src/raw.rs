@@ -102,6 +102,12 @@ extern "C" {
         address: *mut usize,
         byte: *mut u8,
     ) -> u8;
+    pub fn delunkpawi_advance(
+        job: *mut u8,
+        job_length: usize,
+        steps: usize,
+        count: *mut usize,
+    ) -> u8;
 }
 
 /// The type of enable and disable.

@@ -40,6 +40,8 @@ fn refuses() {
     assert_eq!(other.slot_count(&image), Err(Refused(2)));
     assert_eq!(SETTING.slot_facts(&image, 3), Err(Refused(7)));
     assert_eq!(SETTING.slot_name(&image, 3), Err(Refused(7)));
+    assert_eq!(SETTING.slot_name_into(&image, 2, &mut [0]), Err(Refused(91)));
+    assert_eq!(SETTING.slot_name_into(&image, 2, &mut [0; 2]), Ok(2));
     assert_eq!(SETTING.disable(&image, 2).err(), Some(Refused(8)));
     assert_eq!(SETTING.rename(&image, 0, &[b'n'; 16]).err(), Some(Refused(9)));
     assert_eq!(SETTING.rename(&image, 0, b"P2").err(), Some(Refused(10)));
@@ -77,6 +79,30 @@ fn repairs_after_a_cut() {
     assert_eq!(job.next_step(), Ok(Some(Step::Program(0x7038, 0x00))));
     assert_eq!(finish(job, &mut image), 16);
     assert_eq!(SETTING.order(&image), Ok(vec![2, 1, 0]));
+}
+
+/// A driver that does each step itself: a rewrite that is done so leaves what a run leaves, in image and job.
+#[test]
+fn counts_steps_done_by_a_driver() {
+    let mut image = quarry();
+    let mut flash = quarry();
+    let mut job = SETTING.rename(&image, 0, b"other").unwrap();
+    let mut driven = job.clone();
+    assert_eq!(job.run(&mut image, 5000), Ok(5000));
+    for _ in 0..5000 {
+        match driven.next_step().unwrap() {
+            Some(Step::Program(address, byte)) => flash[address] &= byte,
+            Some(Step::Erase(address)) => flash[address..address + SETTING.granule].fill(0xFF),
+            None => panic!("steps remain"),
+        }
+        assert_eq!(driven.advance(1), Ok(1));
+    }
+    assert!(flash == image);
+    assert!(driven == job);
+    assert_eq!(driven.advance(0), Ok(0));
+    assert_eq!(driven.advance(usize::MAX), Ok(3194));
+    assert_eq!(driven.next_step(), Ok(None));
+    assert_eq!(driven.advance(0), Err(Refused(11)));
 }
 
 #[test]

@@ -1,7 +1,7 @@
--- `start_enable` answers and lists what the definition gives. Assumes nothing.
+-- `start_enable` returns what the definition gives. Assumes nothing.
 use borrow.Author.Needs.{needs}
 use Rattle.rules.specs.Commands.{enable}
-use Rattle.commands.proofs.Asking.{begins-unseen, begins-seen, view-again}
+use Rattle.commands.proofs.Asking.{result-unseen, result-seen, view-again}
 use Rattle.commands.proofs.start_enable.Statement.{statement}
 use Rattle.commands.proofs.start_enable.Tie as tie
 
@@ -33,7 +33,7 @@ returns c =
     let at-view = at-seen .before .before in
     let s = at-view .before .before in
     let a = s .args in
-    begins-unseen (a .granule) (a .spt0) (a .spt1) (a .image .now) (at-view .view .result) (at-view .view .ensures)
+    result-unseen (a .granule) (a .spt0) (a .spt1) (a .image .now) (at-view .view .result) (at-view .view .ensures)
     (enable (a .slot .0))
     (c .refuse .result) (at-seen .seen .given .0 .0) (at-seen .seen .given .1) (c .refuse .ensures)
 
@@ -43,7 +43,7 @@ returns-2 c =
     let at-view = at-seen2 .before .before in
     let s = at-view .before .before in
     let a = s .args in
-    begins-seen (a .granule) (a .spt0) (a .spt1) (a .image .now) (at-view .view .result) (at-view .view .ensures)
+    result-seen (a .granule) (a .spt0) (a .spt1) (a .image .now) (at-view .view .result) (at-view .view .ensures)
     (at-seen2 .seen2 .given .0 .0)
     (at-seen2 .seen2 .given .1) (enable (a .slot .0)) (c .enable-by .result) (c .enable-by .ensures)
 

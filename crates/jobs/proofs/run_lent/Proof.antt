@@ -6,6 +6,7 @@ use lib.ListN.{length}
 use borrow.Author.Needs.{needs}
 use Rattle.rules.proofs.Tests.{and-true}
 use Rattle.jobs.specs.Jobs.{lent, steps-of}
+use Rattle.jobs.specs.Parts.{chosen}
 use Rattle.jobs.specs.declared.Job.{Job}
 use Rattle.jobs.proofs.Running.{Arrays, one-fails, both-hold, stays, goes, finished-11, outside-12, inside-given}
 use Rattle.jobs.proofs.run_lent.Statement.{statement}
@@ -68,7 +69,7 @@ same-length : tie.Need-same-length
 same-length c = search needs
 
 returns-3 : tie.Need-returns-3
-unfolding steps-of
+unfolding steps-of chosen
 returns-3 c =
     let at-do-steps = c .before .before .before in
     let at-if2 = at-do-steps .before .before in
@@ -78,7 +79,7 @@ returns-3 c =
     let a = s .args in
     let t = both-hold (eqb (length (a .image .now)) (a .plan .len)) (at-steps-inside .steps-inside .result)
     (at-if2 .if2 .left) in
-    goes (job s) (sizes s) (a .image .now) (at-do-steps .do-steps .last .1 .1 .1 .1 .1 .1 .1 .0) (a .budget)
+    goes (job s) (sizes s) (a .image .now) (at-do-steps .do-steps .last .1 .1 .1 .1 .1 .1 .0) (a .budget)
     (c .least .result)
     (inside-given (job s) (sizes s) (a .image .now) (omega (arith, at-step-count .step-count .ensures .0))
     (rw (← at-steps-inside .steps-inside .ensures) t))

@@ -2,7 +2,7 @@
 -- Assumes nothing.
 use mathlib.Core.Path.{sym, _∙_}
 use borrow.Author.Needs.{needs}
-use Rattle.rules.specs.Table.{rows, slot-starts}
+use Rattle.rules.specs.Table.{starts}
 use Rattle.places.specs.Added.{added-at, added}
 use Rattle.places.proofs.Free.{live-used}
 use Rattle.places.proofs.added_by.Statement.{statement}
@@ -30,7 +30,7 @@ held-above-requires c κs =
     let start = judged .before .before .before .before in
     let a = start .args in (
       start .pre .1,
-      live-used (slot-starts (rows (a .n) (a .t .now))) (judged .before .place-value .result)
+      live-used (starts (a .t .now)) (judged .before .place-value .result)
           (live .judgement .given .0 .0) (sym (judged .judge .ensures) ∙ live .judgement .given .1),
     )
 

@@ -1,48 +1,56 @@
 -- `places::free_place` walks down from the last place. The invariant: from place k on all places are erased.
 -- Assumes nothing.
 use mathlib.Core.Path.{_≡_, sym}
-use Prim.Native.Nat.{_+_, _-_}
+use mathlib.Core.Bool.{true}
+use Prim.Native.Nat.{_≤_}
 use native.Mathlib.Omega.{arith}
+use lib.ListN.{drop}
 use borrow.Author.Tests.{eq-eqb, ne-eqb}
-use Rattle.rules.specs.Pointers.{all-ones}
-use Rattle.places.specs.StandingPointers.{FreeFrom}
-use Rattle.places.proofs.Free.{free-past-last, free-lower, free-found, free-from-0}
+use Rattle.rules.specs.Lists.{all}
+use Rattle.rules.specs.Pointers.{place-count, places, all-ones}
+use Rattle.walks.proofs.Loops.{all-over}
+use Rattle.walks.proofs.Last.{last-none, last-goes, last-found}
+use Rattle.places.specs.PlacesOf.{free-from}
+use Rattle.places.proofs.Values.{place-down, place-over}
 use borrow.Author.Needs.{needs}
 use Rattle.places.proofs.free_place.Statement.{statement}
 use Rattle.places.proofs.free_place.Tie as tie
 
 abbrev Inv-loop : tie.InvT-loop
-Inv-loop p k₀ k = FreeFrom p k
+Inv-loop p offset k₀ k = (k ≤ place-count p) × (all all-ones (drop k (places p)) ≡ true)
 
 abbrev μ-loop : tie.MeasureT-loop
-μ-loop p k₀ k = k
+μ-loop p offset k₀ k = k
+
+place-offset-requires : tie.Need-place-offset-requires Inv-loop μ-loop
+place-offset-requires c κs = search needs
 
 place-count-requires : tie.Need-place-count-requires Inv-loop μ-loop
 place-count-requires c κs = search needs
 
 loop-holds : tie.Need-loop-holds Inv-loop μ-loop
-loop-holds c = rw (c .place-count .ensures) (free-past-last (c .before .before .args .p .now))
+loop-holds c =
+    let p = c .before .before .before .args .p .now in
+    rw (c .place-count .ensures) (omega arith, all-over all-ones (place-over p (place-count p) (omega arith)))
 
-sub-k : tie.Need-sub-k Inv-loop μ-loop
-sub-k c = search needs
+sub-t6 : tie.Need-sub-t6 Inv-loop μ-loop
+sub-t6 c = search needs
 
-place-value-requires : tie.Need-place-value-requires Inv-loop μ-loop
-place-value-requires c κs = search needs
-
-add-result : tie.Need-add-result Inv-loop μ-loop
-add-result c = search needs
+value-at-requires : tie.Need-value-at-requires Inv-loop μ-loop
+value-at-requires c κs = search needs
 
 returns : tie.Need-returns Inv-loop μ-loop
-unfolding all-ones
+unfolding all-ones free-from
 returns c =
     let value = c .before in
     let at = value .before .before in
-    let p = at .before .before .before .args .p .now in
-    let used = rw (value .place-value .ensures) at (ne-eqb _ _ (c .if1 .taken)) in
-    let same : at .loop .k - 1 + 1 ≡ at .loop .k = omega arith in (
-      λ starts. omega (arith, free-found p (at .loop .k) (omega arith) (at .loop .inv) used starts),
-      rw same (at .loop .inv),
-    )
+    let p = at .before .before .before .before .args .p .now in
+    let turn = place-down p (at .loop .k) (omega arith) (at .loop .inv .0) in
+    let used = rw (value .value-at .ensures) at (ne-eqb _ _ (c .if1 .taken)) in
+    sym (last-found all-ones (places p) (at .loop .k) turn (at .loop .inv .1) (omega arith) used)
+
+sub-k : tie.Need-sub-k Inv-loop μ-loop
+sub-k c = search needs
 
 loop-less : tie.Need-loop-less Inv-loop μ-loop
 loop-less c = search needs
@@ -52,17 +60,18 @@ unfolding all-ones
 loop-again c =
     let value = c .before in
     let at = value .before .before in
-    let p = at .before .before .before .args .p .now in
-    free-lower p (at .loop .k) (omega arith) (at .loop .inv)
-    (rw (value .place-value .ensures) at (eq-eqb _ _ (c .if1 .left)))
+    let p = at .before .before .before .before .args .p .now in
+    let turn = place-down p (at .loop .k) (omega arith) (at .loop .inv .0) in
+    let erased = rw (value .value-at .ensures) at (eq-eqb _ _ (c .if1 .left)) in
+    (omega arith, last-goes all-ones (places p) (at .loop .k) turn (at .loop .inv .1) erased)
 
 returns-2 : tie.Need-returns-2 Inv-loop μ-loop
+unfolding free-from
 returns-2 c =
     let at = c .before in
-    let p = at .before .before .before .args .p .now in
+    let p = at .before .before .before .before .args .p .now in
     let none-left : at .loop .k ≡ 0 = omega arith in
-    let free = rw none-left at (at .loop .inv) in
-    (λ starts. sym (free-from-0 p free starts), free)
+    sym (last-none all-ones (places p) (rw none-left at (at .loop .inv .1)))
 
 pub free-place-spec : {M : Type 1} → statement M
 free-place-spec =
@@ -70,12 +79,13 @@ free-place-spec =
     (tie.spec
     Inv-loop
     μ-loop
+    place-offset-requires
     place-count-requires
     loop-holds
-    sub-k
-    place-value-requires
-    add-result
+    sub-t6
+    value-at-requires
     returns
+    sub-k
     loop-less
     loop-again
     returns-2)

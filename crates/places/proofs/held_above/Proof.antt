@@ -9,36 +9,43 @@ use Rattle.rules.specs.Pointers.{places}
 use Rattle.rules.proofs.PointerHeader.{layout}
 use Rattle.walks.proofs.Loops.{member-here, member-goes}
 use Rattle.places.proofs.Values.{place-turn}
-use Rattle.places.proofs.Free.{not-held}
+use Rattle.places.proofs.Free.{count-is, free-places, not-held}
 use borrow.Author.Needs.{needs}
 use Rattle.places.proofs.held_above.Statement.{statement}
 use Rattle.places.proofs.held_above.Tie as tie
 
 abbrev Inv-loop : tie.InvT-loop
-Inv-loop p end v k₀ k = member v (drop k₀ (places p)) ≡ member v (drop k (places p))
+Inv-loop p places' v end k₀ k = member v (drop k₀ (places p)) ≡ member v (drop k (places p))
 
 abbrev μ-loop : tie.MeasureT-loop
-μ-loop p end v k₀ k = end - k
+μ-loop p places' v end k₀ k = end - k
 
 add-k : tie.Need-add-k Inv-loop μ-loop
 add-k c =
     let start = c .before .before in
-    omega (arith, layout (start .args .p .now) (start .pre .0 .0 .0 .stands))
+    let h = start .pre .0 .0 in
+    omega (arith, layout (start .args .p .now) (h .block .stands), count-is (start .args .p .now) (start .args .places) h)
 
 loop-holds : tie.Need-loop-holds Inv-loop μ-loop
 loop-holds c = refl
 
 place-value-requires : tie.Need-place-value-requires Inv-loop μ-loop
-place-value-requires c κs = search needs
+place-value-requires c κs =
+    let start = c .before .before .before .before in
+    let a = start .args in
+    let h = start .pre .0 .0 in
+    (h, omega (arith, free-places (a .p .now) (a .places) h .within, count-is (a .p .now) (a .places) h))
 
 returns : tie.Need-returns Inv-loop μ-loop
 returns c =
     let value = c .before in
     let at = value .before .before in
-    let a = at .before .before .before .args in
+    let start = at .before .before .before in
+    let a = start .args in
+    let free = free-places (a .p .now) (a .places) (start .pre .0 .0) in
     sym
     (at .loop .inv
-    ∙ member-here (a .v) (place-turn (a .p .now) (at .loop .k) (omega arith))
+    ∙ member-here (a .v) (place-turn (a .p .now) (at .loop .k) (omega (arith, free .within)))
     (c .if1 .taken ∙ value .place-value .ensures))
 
 add-k-2 : tie.Need-add-k-2 Inv-loop μ-loop
@@ -51,9 +58,11 @@ loop-again : tie.Need-loop-again Inv-loop μ-loop
 loop-again c =
     let value = c .before in
     let at = value .before .before in
-    let a = at .before .before .before .args in
+    let start = at .before .before .before in
+    let a = start .args in
+    let free = free-places (a .p .now) (a .places) (start .pre .0 .0) in
     at .loop .inv
-    ∙ member-goes (a .v) (place-turn (a .p .now) (at .loop .k) (omega arith))
+    ∙ member-goes (a .v) (place-turn (a .p .now) (at .loop .k) (omega (arith, free .within)))
     (λ e. c .if1 .left (e ∙ sym (value .place-value .ensures)))
 
 returns-2 : tie.Need-returns-2 Inv-loop μ-loop
@@ -63,7 +72,10 @@ returns-2 c =
     let a = start .args in
     sym
     (at .loop .inv
-    ∙ not-held (a .p .now) (a .end) (at .loop .k) (a .v) (start .pre .0 .0 .1) (omega arith) (start .pre .1))
+    ∙ not-held (a .p .now) (a .places .free .0) (at .loop .k) (a .v)
+    (free-places (a .p .now) (a .places) (start .pre .0 .0))
+    (omega arith)
+    (start .pre .1))
 
 pub held-above-spec : {M : Type 1} → statement M
 held-above-spec =

@@ -1,4 +1,4 @@
--- `try_erase` ends and keeps the length of its image: one choice fewer each turn. Assumes nothing.
+-- `try_erase` ends and keeps the length of its image: one cut fewer each turn. Assumes nothing.
 use mathlib.Core.Path.{_≡_, refl, _∙_}
 use Prim.Native.Nat.{_-_}
 use lib.ListN.{length}
@@ -7,10 +7,13 @@ use Rattle.power_cuts.proofs.try_erase.Statement.{statement}
 use Rattle.power_cuts.proofs.try_erase.Tie as tie
 
 abbrev Inv-loop : tie.InvT-loop
-Inv-loop flash work₀ s at old new sum₀ i₀ work sum i = length work ≡ length work₀
+Inv-loop flash work₀ s at old new count sum₀ i₀ work sum i = length work ≡ length work₀
 
 abbrev μ-loop : tie.MeasureT-loop
-μ-loop flash work₀ s at old new sum₀ i₀ work sum i = 8 - i
+μ-loop flash work₀ s at old new count sum₀ i₀ work sum i = count - i
+
+erase-cuts-requires : tie.Need-erase-cuts-requires Inv-loop μ-loop
+erase-cuts-requires c κs = search needs
 
 loop-holds : tie.Need-loop-holds Inv-loop μ-loop
 loop-holds c = refl
@@ -42,6 +45,7 @@ try-erase-spec =
     (tie.spec
     Inv-loop
     μ-loop
+    erase-cuts-requires
     loop-holds
     wiped-bytes-requires
     try-cut-requires

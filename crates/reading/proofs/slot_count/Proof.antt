@@ -3,7 +3,7 @@ use mathlib.Core.Path.{sym}
 use borrow.Author.Needs.{needs}
 use Rattle.rules.specs.Numbers.{setting}
 use Rattle.reading.specs.Answers.{counted}
-use Rattle.reading.proofs.ByView.{no-count, follows, few-entries, count-by-table}
+use Rattle.reading.proofs.ByView.{no-count, follows, has-entries, count-by-table}
 use Rattle.reading.proofs.slot_count.Statement.{statement}
 use Rattle.reading.proofs.slot_count.Tie as tie
 
@@ -31,12 +31,10 @@ count-slots-requires c κs =
     let block = c .before in
     let seen = block .before .before in
     let called = seen .before .before in
-    let a = called .before .before .args in (
-      block .block-at .ensures .1,
-      few-entries (setting (a .granule) (a .spt0) (a .spt1)) (a .image .now) (called .view .ensures)
-          (seen .seen2 .given .1) (block .block-at .result .now) (c .entry-count .result) (block .block-at .ensures .0)
-          (c .entry-count .ensures),
-    )
+    let a = called .before .before .args in
+    has-entries (setting (a .granule) (a .spt0) (a .spt1)) (a .image .now) (called .view .ensures) (seen .seen2 .given .1)
+    (block .block-at .result .now) (c .entry-count .result) (block .block-at .ensures .0) (c .entry-count .ensures)
+    (block .block-at .ensures .1)
 
 returns : tie.Need-returns
 unfolding counted

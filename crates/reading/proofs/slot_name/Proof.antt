@@ -2,7 +2,7 @@
 use mathlib.Core.Path.{sym, _∙_}
 use borrow.Author.Needs.{needs}
 use Rattle.rules.specs.Numbers.{setting}
-use Rattle.reading.proofs.ByView.{no-name, follows, few-entries, name-by-table}
+use Rattle.reading.proofs.ByView.{no-name, follows, has-entries, name-by-table}
 use Rattle.reading.proofs.slot_name.Statement.{statement}
 use Rattle.reading.proofs.slot_name.Tie as tie
 
@@ -33,12 +33,10 @@ name-in-requires c κs =
     let block = c .before in
     let seen = block .before .before in
     let called = seen .before .before in
-    let a = called .before .before .args in (
-      block .block-at .ensures .1,
-      few-entries (setting (a .granule) (a .spt0) (a .spt1)) (a .image .now) (called .view .ensures)
-          (seen .seen .given .1) (block .block-at .result .now) (c .entry-count .result) (block .block-at .ensures .0)
-          (c .entry-count .ensures),
-    )
+    let a = called .before .before .args in
+    has-entries (setting (a .granule) (a .spt0) (a .spt1)) (a .image .now) (called .view .ensures) (seen .seen .given .1)
+    (block .block-at .result .now) (c .entry-count .result) (block .block-at .ensures .0) (c .entry-count .ensures)
+    (block .block-at .ensures .1)
 
 returns : tie.Need-returns
 returns c =

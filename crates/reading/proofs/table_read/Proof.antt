@@ -1,8 +1,9 @@
 -- `reading::table_read` is the part of the image that the view names, or an empty part. Assumes nothing.
 use mathlib.Core.Path.{sym, _∙_}
+use native.Mathlib.Omega.{arith}
 use borrow.Author.Needs.{needs}
 use Rattle.rules.specs.Numbers.{setting}
-use Rattle.reading.proofs.ByView.{no-table, follows, table-by-view}
+use Rattle.reading.proofs.ByView.{no-table, fits, table-by-view}
 use Rattle.reading.proofs.table_read.Statement.{statement}
 use Rattle.reading.proofs.table_read.Tie as tie
 
@@ -22,8 +23,8 @@ block-at-requires : tie.Need-block-at-requires
 block-at-requires c κs =
     let called = c .before .before .before in
     let a = called .before .before .args in
-    follows (setting (a .granule) (a .spt0) (a .spt1)) (a .image .now) (called .view .ensures) (c .before .seen .given .1)
-    .table-inside
+    let s = setting (a .granule) (a .spt0) (a .spt1) in
+    omega (arith, fits s (a .image .now) (called .view .ensures) (c .before .seen .given .1))
 
 returns : tie.Need-returns
 returns c =

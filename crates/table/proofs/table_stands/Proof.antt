@@ -38,7 +38,7 @@ entries-stand-requires c κs =
     let header = c .before .before .before .header-is-right .ensures in
     let count = c .before .before .count-is-right .ensures in
     let most = count-at-most (b .block-at .result .now) header count (c .before .if1 .left) in
-    ((b .block-at .ensures .1, rw (c .entry-count .ensures) most), omega arith)
+    (record { whole = b .block-at .ensures .1; few = rw (c .entry-count .ensures) most }, omega arith)
 
 returns-2 : tie.Need-returns-2
 unfolding entries

@@ -1,8 +1,6 @@
--- `into_places` denotes the steps into places of two blocks. Assumes nothing.
-use mathlib.Core.Path.{refl}
-use native.Mathlib.Nat.{min-eq-left}
+-- `into_places` is the job that writes into places of two blocks. Assumes nothing.
 use borrow.Author.Needs.{needs}
-use Rattle.jobs.specs.Jobs.{part, listed, steps-of}
+use Rattle.blocks.specs.Made.{places-written}
 use Rattle.blocks.proofs.made.into_places.Statement.{statement}
 use Rattle.blocks.proofs.made.into_places.Tie as tie
 
@@ -13,13 +11,8 @@ erased-block-requires-2 : tie.Need-erased-block-requires-2
 erased-block-requires-2 c κs = search needs
 
 returns : tie.Need-returns
-unfolding steps-of listed part
-returns c = record {
-  steps = rw (min-eq-left (c .before .before .pre));
-  same-len = refl;
-  same-granule = refl;
-  none-done = refl;
-}
+unfolding places-written
+returns c = rw (c .before .erased-block .ensures, c .erased-block2 .ensures)
 
 pub into-places-spec : {M : Type 1} → statement M
 into-places-spec = tie.close (tie.spec erased-block-requires erased-block-requires-2 returns)

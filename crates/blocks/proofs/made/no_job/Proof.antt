@@ -4,15 +4,12 @@ use Rattle.blocks.specs.Made.{no-job}
 use Rattle.blocks.proofs.made.no_job.Statement.{statement}
 use Rattle.blocks.proofs.made.no_job.Tie as tie
 
-erased-block-requires : tie.Need-erased-block-requires
-erased-block-requires c κs = search needs
-
-erased-block-requires-2 : tie.Need-erased-block-requires-2
-erased-block-requires-2 c κs = search needs
+no-steps-requires : tie.Need-no-steps-requires
+no-steps-requires c κs = search needs
 
 returns : tie.Need-returns
 unfolding no-job
-returns c = rw (c .before .erased-block .ensures, c .erased-block2 .ensures)
+returns c = c .no-steps .ensures
 
 pub no-job-spec : {M : Type 1} → statement M
-no-job-spec = tie.close (tie.spec erased-block-requires erased-block-requires-2 returns)
+no-job-spec = tie.close (tie.spec no-steps-requires returns)

@@ -1,6 +1,7 @@
--- `no_steps` denotes no steps. Assumes nothing.
+-- `no_steps` is the job of no steps for an image. Assumes nothing.
+use mathlib.Core.Path.{_∙_}
 use borrow.Author.Needs.{needs}
-use Rattle.blocks.proofs.JobSteps.{lists-same}
+use Rattle.blocks.specs.Made.{no-steps}
 use Rattle.blocks.proofs.made.no_steps.Statement.{statement}
 use Rattle.blocks.proofs.made.no_steps.Tie as tie
 
@@ -14,8 +15,8 @@ rewrites-requires : tie.Need-rewrites-requires
 rewrites-requires c κs = search needs
 
 returns : tie.Need-returns
-returns c = lists-same (c .rewrites .ensures) (rw
-    (c .before .before .unwanted .ensures, c .before .unwanted2 .ensures))
+unfolding no-steps
+returns c = c .rewrites .ensures ∙ rw (c .before .before .unwanted .ensures, c .before .unwanted2 .ensures)
 
 pub no-steps-spec : {M : Type 1} → statement M
 no-steps-spec =

@@ -1,7 +1,6 @@
--- `pair_rewritten` denotes the rewriting of both copies of a pair. Assumes nothing.
+-- `pair_rewritten` is the job that rewrites both copies of a pair. Assumes nothing.
 use borrow.Author.Needs.{needs}
-use Rattle.rules.specs.Steps.{rewrite-pair}
-use Rattle.blocks.specs.Made.{rewriting}
+use Rattle.blocks.specs.Made.{pair-rewritten}
 use Rattle.blocks.proofs.made.pair_rewritten.Statement.{statement}
 use Rattle.blocks.proofs.made.pair_rewritten.Tie as tie
 
@@ -9,7 +8,7 @@ rewrites-requires : tie.Need-rewrites-requires
 rewrites-requires c κs = search needs
 
 returns : tie.Need-returns
-unfolding rewriting rewrite-pair
+unfolding pair-rewritten
 returns c = c .rewrites .ensures
 
 pub pair-rewritten-spec : {M : Type 1} → statement M

@@ -1,7 +1,5 @@
--- `unwanted` denotes no steps. Assumes nothing.
-use mathlib.Core.Path.{refl}
+-- `unwanted` is no block at address 0. Assumes nothing.
 use borrow.Author.Needs.{needs}
-use Rattle.blocks.specs.Made.{rewriting}
 use Rattle.blocks.proofs.made.unwanted.Statement.{statement}
 use Rattle.blocks.proofs.made.unwanted.Tie as tie
 
@@ -9,8 +7,7 @@ erased-block-requires : tie.Need-erased-block-requires
 erased-block-requires c κs = search needs
 
 returns : tie.Need-returns
-unfolding rewriting
-returns c = refl
+returns c = rw (c .erased-block .ensures)
 
 pub unwanted-spec : {M : Type 1} → statement M
 unwanted-spec = tie.close (tie.spec erased-block-requires returns)

@@ -4,7 +4,8 @@ use native.Mathlib.Omega.{arith}
 use lib.ListN.{length, take}
 use borrow.Author.Needs.{needs}
 use Rattle.rules.specs.Pointers.{places}
-use Rattle.places.specs.Added.{order-by-rows}
+use Rattle.rules.specs.Copies.{order-by}
+use Rattle.slots.proofs.RowsOf.{count-is}
 use Rattle.blocks.proofs.OrderPacked.{few-in-order, numbers-of-order, front-of-row}
 use Rattle.blocks.proofs.packing.order_without.Statement.{statement}
 use Rattle.blocks.proofs.packing.order_without.Tie as tie
@@ -12,8 +13,7 @@ use Rattle.blocks.proofs.packing.order_without.Tie as tie
 -- the front of the row is the boot order
 in-front : (c : tie.After-write-order)
     → take (c .write-order .result) (c .write-order .last .1 .1 .1 .1 .0)
-    ≡ order-by-rows (c .before .before .before .before .args .n) (c .before .before .before .before .args .t .now)
-    (c .before .before .before .before .args .p .now)
+    ≡ order-by (c .before .before .before .before .args .t .now) (c .before .before .before .before .args .p .now)
 in-front c =
     front-of-row _ _ (c .write-order .last .1 .1 .1 .1 .0) (c .write-order .result) (c .write-order .ensures .0)
     (c .write-order .ensures .1)
@@ -22,14 +22,17 @@ slice-aggregate-write-order : tie.Need-slice-aggregate-write-order
 slice-aggregate-write-order c = search needs
 
 write-order-requires : tie.Need-write-order-requires
+unfolding order-by
 write-order-requires c κs =
     let s = c .before .before .before in
-    let a = s .args in (
-      (((s .pre .whole, s .pre .few), s .pre .ends), s .pre .pointers),
-      omega (arith, s .pre .few, few-in-order (a .n) (a .t .now) (places (a .p .now))),
+    let a = s .args in
+    let count = count-is (a .t .now) (a .rows) (s .pre .table) in (
+      (s .pre .table, s .pre .pointers),
+      omega (arith, s .pre .table .table .few, count, few-in-order (a .t .now) (places (a .p .now))),
     )
 
 array-share-prefix-row : tie.Need-array-share-prefix-row
+unfolding order-by
 array-share-prefix-row c =
     let at-write-order = c .before in
     let s = at-write-order .before .before .before .before in
@@ -38,9 +41,10 @@ array-share-prefix-row c =
     omega (
       arith,
       room,
-      s .pre .few,
+      s .pre .table .table .few,
+      count-is (a .t .now) (a .rows) (s .pre .table),
       at-write-order .write-order .ensures .0,
-      few-in-order (a .n) (a .t .now) (places (a .p .now)),
+      few-in-order (a .t .now) (places (a .p .now)),
     )
 
 slice-aggregate-pack-without : tie.Need-slice-aggregate-pack-without
@@ -49,11 +53,13 @@ slice-aggregate-pack-without c =
     at-write-order .write-order .ensures .0 ∙ ap length (sym (in-front at-write-order))
 
 pack-without-requires : tie.Need-pack-without-requires
+unfolding order-by
 pack-without-requires c κs =
     let at-write-order = c .before .before in
     let s = at-write-order .before .before .before .before in
     let a = s .args in
-    (s .pre, rw (in-front at-write-order) (numbers-of-order (a .n) (a .t .now) (places (a .p .now)) (s .pre .few)))
+    let few = rw (count-is (a .t .now) (a .rows) (s .pre .table)) at (s .pre .table .table .few) in
+    (s .pre, rw (in-front at-write-order) (numbers-of-order (a .t .now) (places (a .p .now)) few))
 
 returns : tie.Need-returns
 returns c = c .pack-without .ensures ∙ rw (in-front (c .before .before .before))

@@ -6,37 +6,35 @@ use native.Mathlib.Omega.{arith}
 use lib.ListN.{length, getD, length-append}
 use borrow.Author.Needs.{needs}
 use Rattle.rules.specs.Bytes.{block-size}
-use Rattle.rules.specs.Table.{rows, slot-starts}
+use Rattle.rules.specs.Table.{starts}
 use Rattle.rules.specs.Commands.{filled}
 use Rattle.rules.proofs.PointerHeader.{places-fit}
+use Rattle.places.proofs.Free.{offset-is}
 use Rattle.blocks.proofs.Putting.{pointer-put-after}
 use Rattle.blocks.proofs.OrderPacked.{put-from, none-put, left-out-turn, put-turn}
 use Rattle.blocks.proofs.packing.pack_without.Statement.{statement}
 use Rattle.blocks.proofs.packing.pack_without.Tie as tie
 
 abbrev Inv-loop : tie.InvT-loop
-Inv-loop t n last p order slot offset b₀ count₀ i₀ b count i =
+Inv-loop t rows p order slot offset b₀ count₀ i₀ b count i =
     ((count + i ≤ length order) × (length b ≡ block-size))
-    × ((b ≡ filled p (put-from (slot .0) (slot-starts (rows n t)) order i))
-    × (count ≡ length (put-from (slot .0) (slot-starts (rows n t)) order i)))
+    × ((b ≡ filled p (put-from (slot .0) (starts t) order i))
+    × (count ≡ length (put-from (slot .0) (starts t) order i)))
 
 abbrev μ-loop : tie.MeasureT-loop
-μ-loop t n last p order slot offset b₀ count₀ i₀ b count i = i
+μ-loop t rows p order slot offset b₀ count₀ i₀ b count i = i
 
 eight-bytes : (c : tie.After-bytes-of Inv-loop μ-loop) → length (c .bytes-of .result) ≡ 8
 eight-bytes c = search needs
-
-place-offset-requires : tie.Need-place-offset-requires Inv-loop μ-loop
-place-offset-requires c κs = search needs
 
 emptied-requires : tie.Need-emptied-requires Inv-loop μ-loop
 emptied-requires c κs = search needs
 
 loop-holds : tie.Need-loop-holds Inv-loop μ-loop
 loop-holds c =
-    let s = c .before .before .before .before .before in
+    let s = c .before .before .before .before in
     let a = s .args in
-    let none = none-put (a .slot .0) (slot-starts (rows (a .n) (a .t .now))) (a .order .now) in (
+    let none = none-put (a .slot .0) (starts (a .t .now)) (a .order .now) in (
       (omega arith, search needs),
       (rw none (c .emptied .ensures), rw none refl),
     )
@@ -53,8 +51,8 @@ shared-slice-read-s c = search needs
 slot-start-requires : tie.Need-slot-start-requires Inv-loop μ-loop
 slot-start-requires c κs =
     let at = c .before .before .before .before in
-    let s = at .before .before .before .before .before .before in
-    (((s .pre .0 .whole, s .pre .0 .few), s .pre .0 .ends), s .pre .1 .below (at .loop .i - 1) (omega arith))
+    let s = at .before .before .before .before .before in
+    (s .pre .0 .table, s .pre .1 .below (at .loop .i - 1) (omega arith))
 
 bytes-of-requires : tie.Need-bytes-of-requires Inv-loop μ-loop
 bytes-of-requires c κs = search needs
@@ -67,9 +65,15 @@ mul-copy c = search needs
 
 add-copy : tie.Need-add-copy Inv-loop μ-loop
 add-copy c =
-    let s = c .before .before .before .before .before .before .before .before .before .before .before .before .before in
-    let fits = places-fit (s .args .p .now) (s .pre .0 .pointers .stands) in
-    omega (arith, fits .in-block, fits .for-every-slot, s .pre .1 .few)
+    let s = c .before .before .before .before .before .before .before .before .before .before .before .before in
+    let fits = places-fit (s .args .p .now) (s .pre .0 .pointers .block .stands) in
+    omega (
+      arith,
+      fits .in-block,
+      fits .for-every-slot,
+      s .pre .1 .few,
+      offset-is (s .args .p .now) (s .args .places) (s .pre .0 .pointers),
+    )
 
 slice-aggregate-copy-2 : tie.Need-slice-aggregate-copy-2 Inv-loop μ-loop
 slice-aggregate-copy-2 c = search needs
@@ -78,15 +82,14 @@ copy-requires : tie.Need-copy-requires Inv-loop μ-loop
 copy-requires c κs =
     let at-loop-test = c .before .before .before .before .before .before .before in
     let at = at-loop-test .before in
-    let at-place-offset = at .before .before in
-    let s = at-place-offset .before .before .before .before in
-    let fits = places-fit (s .args .p .now) (s .pre .0 .pointers .stands) in
+    let s = at .before .before .before .before .before in
+    let fits = places-fit (s .args .p .now) (s .pre .0 .pointers .block .stands) in
     omega (
       arith,
       fits .in-block,
       fits .for-every-slot,
       s .pre .1 .few,
-      at-place-offset .place-offset .ensures,
+      offset-is (s .args .p .now) (s .args .places) (s .pre .0 .pointers),
       at-loop-test .loop-test .taken,
       at .loop .inv .0,
       eight-bytes (c .before .before),
@@ -106,27 +109,26 @@ loop-again c =
     let at-if1 = at-slot-start .before in
     let at-loop-test = at-if1 .before .before .before in
     let at = at-loop-test .before in
-    let at-place-offset = at .before .before in
-    let s = at-place-offset .before .before .before .before in
+    let s = at .before .before .before .before .before in
     let a = s .args in
     let p = a .p .now in
-    let starts = slot-starts (rows (a .n) (a .t .now)) in
+    let slots = starts (a .t .now) in
     let o = a .order .now in
     let i = at .loop .i in
-    let us = put-from (a .slot .0) starts o i in
-    let fits = places-fit p (s .pre .0 .pointers .stands) in
+    let us = put-from (a .slot .0) slots o i in
+    let fits = places-fit p (s .pre .0 .pointers .block .stands) in
     let left = at-loop-test .loop-test .taken in
-    let turn = put-turn (a .slot .0) starts o i (omega arith) (omega arith) (at-if1 .if1 .taken) in (
+    let turn = put-turn (a .slot .0) slots o i (omega arith) (omega arith) (at-if1 .if1 .taken) in (
       (omega arith, search needs),
       (
         rw turn
             (pointer-put-after p us (at .loop .b) (at-bytes-of .bytes-of .result) (at-copy .copy .last .0)
-            (getD starts (getD o (i - 1) 0) 0) (at-place-offset .place-offset .result) (at .loop .count)
-            (omega (arith, fits .in-block, s .pre .0 .pointers .whole)) (omega (arith, fits .for-every-slot, s .pre .1 .few))
-            (at .loop .inv .1 .0) (at .loop .inv .1 .1) (at-place-offset .place-offset .ensures)
+            (getD slots (getD o (i - 1) 0) 0) (a .places .offset) (at .loop .count)
+            (omega (arith, fits .in-block, s .pre .0 .pointers .block .whole)) (omega (arith, fits .for-every-slot, s .pre .1 .few))
+            (at .loop .inv .1 .0) (at .loop .inv .1 .1) (offset-is p (a .places) (s .pre .0 .pointers))
             (at-bytes-of .bytes-of .ensures ∙ rw (at-slot-start .slot-start .ensures))
             (at-copy .copy .ensures)),
-        rw (turn, length-append us (getD starts (getD o (i - 1) 0) 0 ∷ [])) (omega (arith, at .loop .inv .1 .1)),
+        rw (turn, length-append us (getD slots (getD o (i - 1) 0) 0 ∷ [])) (omega (arith, at .loop .inv .1 .1)),
       ),
     )
 
@@ -136,9 +138,9 @@ loop-less-2 c = search needs
 loop-again-2 : tie.Need-loop-again-2 Inv-loop μ-loop
 loop-again-2 c =
     let at = c .before .before .before .before in
-    let s = at .before .before .before .before .before .before in
+    let s = at .before .before .before .before .before in
     let a = s .args in
-    let turn = left-out-turn (a .slot .0) (slot-starts (rows (a .n) (a .t .now))) (a .order .now) (at .loop .i) (omega arith)
+    let turn = left-out-turn (a .slot .0) (starts (a .t .now)) (a .order .now) (at .loop .i) (omega arith)
     (omega arith) (c .if1 .left) in
     ((omega arith, search needs), rw turn (at .loop .inv .1))
 
@@ -154,7 +156,6 @@ pack-without-spec =
     (tie.spec
     Inv-loop
     μ-loop
-    place-offset-requires
     emptied-requires
     loop-holds
     sub-i

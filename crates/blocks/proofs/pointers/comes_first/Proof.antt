@@ -5,31 +5,36 @@ use Prim.Native.Nat.{_+_, _-_, _≤_}
 use native.Mathlib.Omega.{arith}
 use lib.ListN.{drop}
 use borrow.Author.Needs.{needs}
-use Rattle.rules.specs.Table.{rows, slot-starts}
+use Rattle.rules.specs.Table.{starts}
 use Rattle.rules.specs.Pointers.{place-count, places, order}
 use Rattle.rules.specs.Commands.{is-first}
-use Rattle.places.proofs.BootOrder.{none-above}
+use Rattle.rules.specs.Copies.{order-by}
+use Rattle.places.proofs.Free.{none-above, count-is, free-places}
 use Rattle.blocks.proofs.Walking.{first-goes, first-found}
 use Rattle.blocks.proofs.pointers.comes_first.Statement.{statement}
 use Rattle.blocks.proofs.pointers.comes_first.Tie as tie
 
 abbrev Inv-loop : tie.InvT-loop
-Inv-loop t n last p free slot k₀ k = (k ≤ place-count p) × (order (slot-starts (rows n t)) (drop k (places p)) ≡ [])
+Inv-loop t rows p places' slot k₀ k = (k ≤ place-count p) × (order (starts t) (drop k (places p)) ≡ [])
 
 abbrev μ-loop : tie.MeasureT-loop
-μ-loop t n last p free slot k₀ k = k
+μ-loop t rows p places' slot k₀ k = k
 
 loop-holds : tie.Need-loop-holds Inv-loop μ-loop
 loop-holds c =
     let s = c .before .before in
     let a = s .args in
-    (omega (arith, s .pre .1 .within), none-above (slot-starts (rows (a .n) (a .t .now))) (a .p .now) (a .free) (s .pre .1))
+    let free = free-places (a .p .now) (a .places) (s .pre .pointers) in
+    (free .within, none-above (starts (a .t .now)) (a .p .now) (a .places .free .0) free)
 
 sub-k : tie.Need-sub-k Inv-loop μ-loop
 sub-k c = search needs
 
 place-value-requires : tie.Need-place-value-requires Inv-loop μ-loop
-place-value-requires c κs = search needs
+place-value-requires c κs =
+    let s = c .before .before .before .before in
+    let a = s .args in
+    (s .pre .pointers, omega (arith, count-is (a .p .now) (a .places) (s .pre .pointers)))
 
 judge-requires : tie.Need-judge-requires Inv-loop μ-loop
 judge-requires c κs = search needs
@@ -41,6 +46,7 @@ gives-requires : tie.Need-gives-requires Inv-loop μ-loop
 gives-requires c κs = search needs
 
 returns : tie.Need-returns Inv-loop μ-loop
+unfolding order-by
 returns c =
     let at-if1 = c .before in
     let at-is-live = at-if1 .before in
@@ -54,7 +60,7 @@ returns c =
     let live = sym (rw judgement at (at-is-live .is-live .ensures)) ∙ at-if1 .if1 .taken in
     c .gives .ensures
     ∙ rw judgement
-    (sym (first-found (slot-starts (rows (a .n) (a .t .now))) (a .p .now) k (omega arith) (rw same
+    (sym (first-found (starts (a .t .now)) (a .p .now) k (omega arith) (rw same
     (at .loop .inv .1))
     (a .slot .0) live))
 
@@ -73,12 +79,12 @@ loop-again c =
     let judgement = rw (at-place-value .place-value .ensures) at (at-judge .judge .ensures) in
     let not-live = sym (rw judgement at (at-is-live .is-live .ensures)) ∙ c .if1 .left in (
       omega arith,
-      first-goes (slot-starts (rows (a .n) (a .t .now))) (a .p .now) k (omega arith) (rw same
+      first-goes (starts (a .t .now)) (a .p .now) k (omega arith) (rw same
           (at .loop .inv .1)) not-live,
     )
 
 returns-2 : tie.Need-returns-2 Inv-loop μ-loop
-unfolding is-first
+unfolding is-first order-by
 returns-2 c =
     let at = c .before in
     let none-left : at .loop .k ≡ 0 = omega arith in

@@ -1,7 +1,7 @@
 -- `does_give` tells whether a place gives a slot. Assumes nothing.
 use mathlib.Core.Path.{sym, _∙_}
 use borrow.Author.Needs.{needs}
-use Rattle.rules.specs.Table.{rows, slot-starts}
+use Rattle.rules.specs.Table.{starts}
 use Rattle.blocks.proofs.Walking.{other-value}
 use Rattle.blocks.proofs.pointers.does_give.Statement.{statement}
 use Rattle.blocks.proofs.pointers.does_give.Tie as tie
@@ -15,7 +15,7 @@ returns c =
     let s = at-place-value .before .before .before in
     let a = s .args in
     rw (← at-place-value .place-value .ensures)
-    (sym (other-value (slot-starts (rows (a .n) (a .t .now))) (a .slot .0) (at-place-value .place-value .result) (a .start)
+    (sym (other-value (starts (a .t .now)) (a .slot .0) (at-place-value .place-value .result) (a .start)
     (s .pre .1) (c .if1 .taken)))
 
 judge-requires : tie.Need-judge-requires

@@ -1,8 +1,9 @@
 -- `one_place` notes one place number. Assumes nothing.
-use mathlib.Core.Path.{ap, _∙_}
+use mathlib.Core.Path.{refl}
+use mathlib.Core.List.{[]}
 use borrow.Author.Needs.{needs}
-use Rattle.jobs.specs.Jobs.{numbers-from}
-use Rattle.blocks.proofs.Noting.{noted-more}
+use Rattle.blocks.specs.Made.{number-bytes, places-noted}
+use Rattle.blocks.proofs.Noting.{noted-after}
 use Rattle.blocks.proofs.pointers.one_place.Statement.{statement}
 use Rattle.blocks.proofs.pointers.one_place.Tie as tie
 
@@ -13,14 +14,12 @@ note-requires : tie.Need-note-requires
 note-requires c κs = search needs
 
 returns : tie.Need-returns
-unfolding numbers-from
+unfolding places-noted number-bytes
 returns c =
     let at-note = c .before in
     let a = at-note .before .before .args in
-    record {
-      numbers = ap (numbers-from 1) (at-note .note .ensures) ∙ noted-more 0 (a .place) _ (search needs);
-      room = search needs;
-    }
+    let noted = noted-after [] (a .place .0) (search needs) (search needs) 0 _ _ refl refl (at-note .note .ensures) in
+    rw noted
 
 pub one-place-spec : {M : Type 1} → statement M
 one-place-spec = tie.close (tie.spec slice-aggregate-note note-requires returns)

@@ -1,58 +1,59 @@
--- `same_order` ends: one rank fewer each turn. Assumes nothing.
-use Prim.Native.Nat.{_-_}
+-- `same_order` compares the slots that are meant. Assumes nothing.
+use mathlib.Core.Path.{_≡_, sym, _∙_}
+use native.Mathlib.Omega.{arith}
+use lib.ListN.{length}
+use lib.Seq.{length-take-le}
+use Rattle.book.specs.Kept.{room}
+use Rattle.book.proofs.Orders.{slots-meant}
 use borrow.Author.Needs.{needs}
 use Rattle.book.proofs.order.same_order.Statement.{statement}
 use Rattle.book.proofs.order.same_order.Tie as tie
 
-abbrev Inv-loop : tie.InvT-loop
-Inv-loop a b one other i₀ i = Unit {0}
+-- the rows of both orders have their lengths
+whole-a : (s : tie.Start) → length (s .args .a .row) ≡ room
+whole-a s = search needs
 
-abbrev μ-loop : tie.MeasureT-loop
-μ-loop a b one other i₀ i = 8 - i
+whole-b : (s : tie.Start) → length (s .args .b .row) ≡ room
+whole-b s = search needs
 
-loop-holds : tie.Need-loop-holds Inv-loop μ-loop
-loop-holds c = search needs
+meant-requires : tie.Need-meant-requires
+meant-requires c κs = search needs
 
-mul-if1 : tie.Need-mul-if1 Inv-loop μ-loop
-mul-if1 c = search needs
+meant-requires-2 : tie.Need-meant-requires-2
+meant-requires-2 c κs = search needs
 
-array-read-if1 : tie.Need-array-read-if1 Inv-loop μ-loop
-array-read-if1 c = search needs
+array-share-prefix-one : tie.Need-array-share-prefix-one
+array-share-prefix-one c = omega (arith, whole-a (c .before .before .before .before), c .before .meant .ensures)
 
-mul-if1-2 : tie.Need-mul-if1-2 Inv-loop μ-loop
-mul-if1-2 c = search needs
+slice-aggregate-same-slots : tie.Need-slice-aggregate-same-slots
+slice-aggregate-same-slots c = sym (length-take-le _ _ (omega (arith, whole-a (c .before .before .before .before .before), c .before .before .meant .ensures)))
 
-array-read-if1-2 : tie.Need-array-read-if1-2 Inv-loop μ-loop
-array-read-if1-2 c = search needs
+array-share-prefix-other : tie.Need-array-share-prefix-other
+array-share-prefix-other c = omega (arith, whole-b (c .before .before .before .before .before), c .before .meant2 .ensures)
 
-returns : tie.Need-returns Inv-loop μ-loop
-returns c = search needs
+slice-aggregate-same-slots-2 : tie.Need-slice-aggregate-same-slots-2
+slice-aggregate-same-slots-2 c = sym (length-take-le _ _ (omega (arith, whole-b (c .before .before .before .before .before .before), c .before .before .meant2 .ensures)))
 
-add-i : tie.Need-add-i Inv-loop μ-loop
-add-i c = search needs
+same-slots-requires : tie.Need-same-slots-requires
+same-slots-requires c κs = search needs
 
-loop-less : tie.Need-loop-less Inv-loop μ-loop
-loop-less c = search needs
-
-loop-again : tie.Need-loop-again Inv-loop μ-loop
-loop-again c = search needs
-
-returns-2 : tie.Need-returns-2 Inv-loop μ-loop
-returns-2 c = search needs
+returns : tie.Need-returns
+returns c =
+    c .same-slots .ensures
+    ∙ rw (
+      slots-meant (c .before .before .before .before .before .before .before .args .a) (c .before .before .before .before .meant .result) (whole-a (c .before .before .before .before .before .before .before)) (c .before .before .before .before .meant .ensures),
+      slots-meant (c .before .before .before .before .before .before .before .args .b) (c .before .before .before .meant2 .result) (whole-b (c .before .before .before .before .before .before .before)) (c .before .before .before .meant2 .ensures),
+    )
 
 pub same-order-spec : {M : Type 1} → statement M
 same-order-spec =
     tie.close
     (tie.spec
-    Inv-loop
-    μ-loop
-    loop-holds
-    mul-if1
-    array-read-if1
-    mul-if1-2
-    array-read-if1-2
-    returns
-    add-i
-    loop-less
-    loop-again
-    returns-2)
+    meant-requires
+    meant-requires-2
+    array-share-prefix-one
+    slice-aggregate-same-slots
+    array-share-prefix-other
+    slice-aggregate-same-slots-2
+    same-slots-requires
+    returns)

@@ -1,20 +1,26 @@
 -- `disable_by` refuses or starts disable as its definition says. Assumes nothing.
-use mathlib.Core.Path.{_≡_, _∙_}
-use Prim.Native.Nat.{_<_}
+use mathlib.Core.Path.{_≡_, refl, sym, ap, _∙_}
+use mathlib.Core.List.{List}
+use Prim.Native.Nat.{ℕ, _<_}
 use native.Mathlib.Omega.{arith}
 use lib.ListN.{length}
 use borrow.Author.Needs.{needs}
 use Rattle.rules.specs.Numbers.{setting}
-use Rattle.rules.specs.Table.{rows, slot-starts}
-use Rattle.rules.specs.Commands.{disable-steps, job, disable}
-use Rattle.jobs.specs.Jobs.{numbers-from}
-use Rattle.jobs.proofs.PlaceNumbers.{length-numbers}
-use Rattle.blocks.specs.Walked.{Readable}
+use Rattle.rules.specs.Table.{entry-count}
+use Rattle.rules.specs.Commands.{disable}
+use Rattle.blocks.specs.Walked.{Readable, places-giving}
+use Rattle.blocks.specs.Made.{places-noted}
+use Rattle.blocks.specs.declared.Noted.{Noted}
 use Rattle.commands.specs.Asked.{Located}
-use Rattle.commands.proofs.Locating.{located, few-entries, readable}
-use Rattle.commands.proofs.Asking.{begins-refused, begins-started, disable-refused, disable-refused-8, disable-given, slot-below}
+use Rattle.commands.proofs.Locating.{located, has-entries, stands, readable}
+use Rattle.commands.proofs.Asking.{returns-refused, disable-refused, disable-refused-8, disable-started, slot-counted}
 use Rattle.commands.proofs.disabling.disable_by.Statement.{statement}
 use Rattle.commands.proofs.disabling.disable_by.Tie as tie
+
+-- how many places were noted
+noted-count : {found : Noted} (ks : List ℕ) → found ≡ places-noted ks → found .count ≡ length ks
+unfolding places-noted
+noted-count ks e = ap (λ (f : Noted). f .count) e
 
 -- what the view says of where the blocks are
 where-blocks-are : (s : tie.Start) → Located (s .args .image .now) (s .args .v)
@@ -23,17 +29,17 @@ where-blocks-are s =
     (s .pre)
 
 -- the table and the pointer block read
-blocks-read : (c : tie.After-last-slots)
-    → Readable (c .before .before .before .block-at .result .now) (c .before .entry-count .result) (c .last-slots .result)
-    (c .before .before .block-at2 .result .now)
+blocks-read : (c : tie.After-places-of)
+    → Readable (c .before .before .before .block-at .result .now) (c .before .rows-of .result)
+    (c .before .before .block-at2 .result .now) (c .places-of .result)
 blocks-read c =
     let at-block-at2 = c .before .before in
     let at-block-at = at-block-at2 .before in
     let s = at-block-at .before .before .before .before .before in
-    readable (s .args .image .now) (s .args .v) (at-block-at .block-at .result .now)
-    (at-block-at2 .block-at2 .result .now) (c .before .entry-count .result) (c .last-slots .result) (where-blocks-are s)
-    (at-block-at .block-at .ensures) (at-block-at2 .block-at2 .ensures) (c .before .entry-count .ensures)
-    (c .last-slots .ensures)
+    readable (s .args .image .now) (s .args .v) (where-blocks-are s) (at-block-at .block-at .result .now)
+    (at-block-at2 .block-at2 .result .now) (c .before .rows-of .result) (c .places-of .result)
+    (at-block-at .block-at .ensures) (at-block-at2 .block-at2 .ensures) (c .before .rows-of .ensures)
+    (c .places-of .ensures)
 
 ask-slot-requires : tie.Need-ask-slot-requires
 ask-slot-requires c κs =
@@ -59,43 +65,37 @@ block-at-requires-2 c κs =
     let s = c .before .before .before .before .before in
     where-blocks-are s .pointers-inside
 
-entry-count-requires : tie.Need-entry-count-requires
-entry-count-requires c κs = search needs
+rows-of-requires : tie.Need-rows-of-requires
+rows-of-requires c κs =
+    let at-block-at = c .before in
+    let s = at-block-at .before .before .before .before .before in
+    let t = at-block-at .block-at .result .now in
+    has-entries (s .args .image .now) (s .args .v) (where-blocks-are s) t (entry-count t) (at-block-at .block-at .ensures) refl
 
-last-slots-requires : tie.Need-last-slots-requires
-last-slots-requires c κs =
-    let at-block-at = c .before .before in
-    let s = at-block-at .before .before .before .before .before in (
-      at-block-at .block-at .ensures .1,
-      few-entries (s .args .image .now) (s .args .v) (at-block-at .block-at .result .now) (c .entry-count .result)
-          (where-blocks-are s)
-          (at-block-at .block-at .ensures .0) (c .entry-count .ensures),
-    )
+places-of-requires : tie.Need-places-of-requires
+places-of-requires c κs =
+    let at-block-at2 = c .before in
+    let s = at-block-at2 .before .before .before .before .before .before in
+    stands (s .args .image .now) (s .args .v) (where-blocks-are s) (at-block-at2 .block-at2 .result .now)
+    (at-block-at2 .block-at2 .ensures)
 
 slot-start-requires : tie.Need-slot-start-requires
 slot-start-requires c κs =
-    let at-entry-count = c .before in
-    let at-block-at = at-entry-count .before .before in
+    let at-block-at2 = c .before .before in
+    let at-block-at = at-block-at2 .before in
     let at-enum-told = at-block-at .before in
     let at-ask-slot = at-enum-told .before .before in
     let s = at-ask-slot .before .before in
-    let a = s .args in
-    let read = blocks-read c in (
-      ((read .whole, read .few), read .ends),
-      slot-below (setting (a .granule) (a .v .spt0) (a .v .spt1)) (a .image .now) (a .v) (s .pre) (a .slot .0)
-          (at-ask-slot .ask-slot .result)
-          (at-ask-slot .ask-slot .ensures)
-          (at-enum-told .enum-told .given .1) (at-block-at .block-at .result .now) (at-entry-count .entry-count .result)
-          (at-block-at .block-at .ensures .0) (at-entry-count .entry-count .ensures),
+    let a = s .args in (
+      blocks-read c .table,
+      slot-counted (setting (a .granule) (a .v .spt0) (a .v .spt1)) (a .image .now) (a .v) (s .pre) (a .slot .0)
+          (at-ask-slot .ask-slot .result) (at-ask-slot .ask-slot .ensures) (at-enum-told .enum-told .given .1)
+          (at-block-at .block-at .result .now) (at-block-at2 .block-at2 .result .now)
+          (at-block-at .block-at .ensures .0) (at-block-at2 .block-at2 .ensures .0),
     )
 
-free-place-requires : tie.Need-free-place-requires
-free-place-requires c κs = blocks-read (c .before) .pointers
-
 giving-requires : tie.Need-giving-requires
-giving-requires c κs =
-    let at-slot-start = c .before in
-    ((blocks-read (at-slot-start .before), c .free-place .ensures .1), at-slot-start .slot-start .ensures)
+giving-requires c κs = (blocks-read (c .before), c .slot-start .ensures)
 
 refuse-requires-2 : tie.Need-refuse-requires-2
 refuse-requires-2 c κs = search needs
@@ -104,8 +104,7 @@ returns : tie.Need-returns
 returns c =
     let at-if1 = c .before in
     let at-giving = at-if1 .before .before in
-    let at-entry-count = at-giving .before .before .before .before in
-    let at-block-at2 = at-entry-count .before in
+    let at-block-at2 = at-giving .before .before .before .before in
     let at-block-at = at-block-at2 .before in
     let at-enum-told = at-block-at .before in
     let at-ask-slot = at-enum-told .before .before in
@@ -114,31 +113,29 @@ returns c =
     let img = a .image .now in
     let st = setting (a .granule) (a .v .spt0) (a .v .spt1) in
     let t = at-block-at .block-at .result .now in
-    let found = at-giving .giving .result in
-    let ks = numbers-from (found .count) (found .places) in
-    let none : length ks ≡ 0 = length-numbers (found .count) (found .places) ∙ at-if1 .if1 .taken in
-    begins-refused (c .refuse2 .result) (length img) (a .granule) (job st img (a .v) (disable (a .slot .0))) 8
+    let p = at-block-at2 .block-at2 .result .now in
+    let ks = places-giving t p (a .slot .0) in
+    let none : length ks ≡ 0 = sym (noted-count ks (at-giving .giving .ensures)) ∙ at-if1 .if1 .taken in
+    returns-refused st img (a .v) (disable (a .slot .0)) (c .refuse2 .result) 8
     (c .refuse2 .ensures)
     (disable-refused-8 st img (a .v) (s .pre) (a .slot .0) (at-ask-slot .ask-slot .result)
-    (at-ask-slot .ask-slot .ensures) (at-enum-told .enum-told .given .1) t
-    (at-entry-count .entry-count .result) (at-block-at .block-at .ensures .0) (at-entry-count .entry-count .ensures)
-    (at-block-at2 .block-at2 .result .now)
-    (at-block-at2 .block-at2 .ensures .0) ks (at-giving .giving .ensures .numbers) none)
+    (at-ask-slot .ask-slot .ensures) (at-enum-told .enum-told .given .1) t p
+    (at-block-at .block-at .ensures .0) (at-block-at2 .block-at2 .ensures .0) ks refl none)
 
 cast-disable-job : tie.Need-cast-disable-job
 cast-disable-job c =
-    let s = c .before .before .before .before .before .before .before .before .before .before .before .before .before .before in
+    let s = c .before .before .before .before .before .before .before .before .before .before .before .before .before in
     let l = where-blocks-are s in omega (arith, l .cpb0-inside, l .short)
 
 cast-disable-job-2 : tie.Need-cast-disable-job-2
 cast-disable-job-2 c =
-    let s = c .before .before .before .before .before .before .before .before .before .before .before .before .before .before .before in
+    let s = c .before .before .before .before .before .before .before .before .before .before .before .before .before .before in
     let l = where-blocks-are s in omega (arith, l .cpb1-inside, l .short)
 
 disable-job-requires : tie.Need-disable-job-requires
 disable-job-requires c κs =
     let at-giving = c .before .before .before .before in
-    let at-slot-start = at-giving .before .before in
+    let at-slot-start = at-giving .before in
     ((blocks-read (at-slot-start .before), at-slot-start .slot-start .ensures), at-giving .giving .ensures)
 
 begun-requires : tie.Need-begun-requires
@@ -152,7 +149,7 @@ returns-2 c =
     let a = s .args in
     let img = a .image .now in
     let st = setting (a .granule) (a .v .spt0) (a .v .spt1) in
-    begins-refused (c .refuse .result) (length img) (a .granule) (job st img (a .v) (disable (a .slot .0)))
+    returns-refused st img (a .v) (disable (a .slot .0)) (c .refuse .result)
     (at-asked .asked .given .0 .0)
     (c .refuse .ensures)
     (disable-refused st img (a .v) (s .pre) (a .slot .0) (at-ask-slot .ask-slot .result)
@@ -164,8 +161,7 @@ returns-3 c =
     let at-disable-job = c .before in
     let at-if1 = at-disable-job .before .before .before in
     let at-giving = at-if1 .before .before in
-    let at-entry-count = at-giving .before .before .before .before in
-    let at-block-at2 = at-entry-count .before in
+    let at-block-at2 = at-giving .before .before .before .before in
     let at-block-at = at-block-at2 .before in
     let at-enum-told = at-block-at .before in
     let at-ask-slot = at-enum-told .before .before in
@@ -175,18 +171,12 @@ returns-3 c =
     let st = setting (a .granule) (a .v .spt0) (a .v .spt1) in
     let t = at-block-at .block-at .result .now in
     let p = at-block-at2 .block-at2 .result .now in
-    let n = at-entry-count .entry-count .result in
-    let found = at-giving .giving .result in
-    let ks = numbers-from (found .count) (found .places) in
-    let some : 0 < length ks = omega (arith, length-numbers (found .count) (found .places), at-if1 .if1 .left) in
-    begins-started (c .begun .result) (length img) (a .granule) (job st img (a .v) (disable (a .slot .0)))
-    (at-disable-job .disable-job .result)
-    (disable-steps (a .v .cpb0) (a .v .cpb1) (slot-starts (rows n t)) p (a .slot .0)) (c .begun .ensures)
-    (at-disable-job .disable-job .ensures)
-    (disable-given st img (a .v) (s .pre) (a .slot .0) (at-ask-slot .ask-slot .result)
-    (at-ask-slot .ask-slot .ensures) (at-enum-told .enum-told .given .1) t n
-    (at-block-at .block-at .ensures .0) (at-entry-count .entry-count .ensures) p
-    (at-block-at2 .block-at2 .ensures .0) ks (at-giving .giving .ensures .numbers) some)
+    let ks = places-giving t p (a .slot .0) in
+    let some : 0 < length ks = omega (arith, noted-count ks (at-giving .giving .ensures), at-if1 .if1 .left) in
+    disable-started st img (a .v) (s .pre) (a .slot .0) (at-ask-slot .ask-slot .result)
+    (at-ask-slot .ask-slot .ensures) (at-enum-told .enum-told .given .1) t p
+    (at-block-at .block-at .ensures .0) (at-block-at2 .block-at2 .ensures .0) ks refl some
+    (c .begun .result) (at-disable-job .disable-job .result) (c .begun .ensures) (at-disable-job .disable-job .ensures)
 
 pub disable-by-spec : {M : Type 1} → statement M
 disable-by-spec =
@@ -198,10 +188,9 @@ disable-by-spec =
     enum-told
     block-at-requires
     block-at-requires-2
-    entry-count-requires
-    last-slots-requires
+    rows-of-requires
+    places-of-requires
     slot-start-requires
-    free-place-requires
     giving-requires
     refuse-requires-2
     returns

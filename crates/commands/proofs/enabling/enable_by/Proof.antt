@@ -1,13 +1,13 @@
 -- `enable_by` refuses or starts enable as its definition says. Assumes nothing.
+use mathlib.Core.Path.{refl}
 use native.Mathlib.Omega.{arith}
-use lib.ListN.{length}
 use borrow.Author.Needs.{needs}
 use Rattle.rules.specs.Numbers.{setting}
-use Rattle.rules.specs.Table.{rows, slot-starts}
-use Rattle.rules.specs.Commands.{enable-steps, job, enable}
+use Rattle.rules.specs.Table.{entry-count}
+use Rattle.rules.specs.Commands.{enable}
 use Rattle.commands.specs.Asked.{Located}
-use Rattle.commands.proofs.Locating.{located, few-entries, readable}
-use Rattle.commands.proofs.Asking.{begins-refused, begins-started, enable-refused, enable-given, slot-below}
+use Rattle.commands.proofs.Locating.{located, has-entries, stands, readable}
+use Rattle.commands.proofs.Asking.{returns-refused, enable-refused, enable-started, slot-counted}
 use Rattle.commands.proofs.enabling.enable_by.Statement.{statement}
 use Rattle.commands.proofs.enabling.enable_by.Tie as tie
 
@@ -41,18 +41,19 @@ block-at-requires-2 c κs =
     let s = c .before .before .before .before .before in
     where-blocks-are s .pointers-inside
 
-entry-count-requires : tie.Need-entry-count-requires
-entry-count-requires c κs = search needs
+rows-of-requires : tie.Need-rows-of-requires
+rows-of-requires c κs =
+    let at-block-at = c .before in
+    let s = at-block-at .before .before .before .before .before in
+    let t = at-block-at .block-at .result .now in
+    has-entries (s .args .image .now) (s .args .v) (where-blocks-are s) t (entry-count t) (at-block-at .block-at .ensures) refl
 
-last-slots-requires : tie.Need-last-slots-requires
-last-slots-requires c κs =
-    let at-block-at = c .before .before in
-    let s = at-block-at .before .before .before .before .before in (
-      at-block-at .block-at .ensures .1,
-      few-entries (s .args .image .now) (s .args .v) (at-block-at .block-at .result .now) (c .entry-count .result)
-          (where-blocks-are s)
-          (at-block-at .block-at .ensures .0) (c .entry-count .ensures),
-    )
+places-of-requires : tie.Need-places-of-requires
+places-of-requires c κs =
+    let at-block-at2 = c .before in
+    let s = at-block-at2 .before .before .before .before .before .before in
+    stands (s .args .image .now) (s .args .v) (where-blocks-are s) (at-block-at2 .block-at2 .result .now)
+    (at-block-at2 .block-at2 .ensures)
 
 cast-enable-job : tie.Need-cast-enable-job
 cast-enable-job c =
@@ -66,25 +67,23 @@ cast-enable-job-2 c =
 
 enable-job-requires : tie.Need-enable-job-requires
 enable-job-requires c κs =
-    let at-last-slots = c .before .before in
-    let at-entry-count = at-last-slots .before in
-    let at-block-at2 = at-entry-count .before in
+    let at-places-of = c .before .before in
+    let at-rows-of = at-places-of .before in
+    let at-block-at2 = at-rows-of .before in
     let at-block-at = at-block-at2 .before in
     let at-enum-told = at-block-at .before in
     let at-ask-slot = at-enum-told .before .before in
     let s = at-ask-slot .before .before in
-    let l = where-blocks-are s in
     let a = s .args in
     let img = a .image .now in
     let st = setting (a .granule) (a .v .spt0) (a .v .spt1) in
     let t = at-block-at .block-at .result .now in
-    let n = at-entry-count .entry-count .result in (
-      readable img (a .v) t (at-block-at2 .block-at2 .result .now) n (at-last-slots .last-slots .result) l
-          (at-block-at .block-at .ensures) (at-block-at2 .block-at2 .ensures) (at-entry-count .entry-count .ensures)
-          (at-last-slots .last-slots .ensures),
-      slot-below st img (a .v) (s .pre) (a .slot .0) (at-ask-slot .ask-slot .result) (at-ask-slot .ask-slot .ensures)
-          (at-enum-told .enum-told .given .1) t n
-          (at-block-at .block-at .ensures .0) (at-entry-count .entry-count .ensures),
+    let p = at-block-at2 .block-at2 .result .now in (
+      readable img (a .v) (where-blocks-are s) t p (at-rows-of .rows-of .result) (at-places-of .places-of .result)
+          (at-block-at .block-at .ensures) (at-block-at2 .block-at2 .ensures) (at-rows-of .rows-of .ensures)
+          (at-places-of .places-of .ensures),
+      slot-counted st img (a .v) (s .pre) (a .slot .0) (at-ask-slot .ask-slot .result) (at-ask-slot .ask-slot .ensures)
+          (at-enum-told .enum-told .given .1) t p (at-block-at .block-at .ensures .0) (at-block-at2 .block-at2 .ensures .0),
     )
 
 begun-requires : tie.Need-begun-requires
@@ -98,7 +97,7 @@ returns c =
     let a = s .args in
     let img = a .image .now in
     let st = setting (a .granule) (a .v .spt0) (a .v .spt1) in
-    begins-refused (c .refuse .result) (length img) (a .granule) (job st img (a .v) (enable (a .slot .0)))
+    returns-refused st img (a .v) (enable (a .slot .0)) (c .refuse .result)
     (at-asked .asked .given .0 .0)
     (c .refuse .ensures)
     (enable-refused st img (a .v) (s .pre) (a .slot .0) (at-ask-slot .ask-slot .result)
@@ -108,8 +107,7 @@ returns c =
 returns-2 : tie.Need-returns-2
 returns-2 c =
     let at-enable-job = c .before in
-    let at-entry-count = at-enable-job .before .before .before .before in
-    let at-block-at2 = at-entry-count .before in
+    let at-block-at2 = at-enable-job .before .before .before .before .before in
     let at-block-at = at-block-at2 .before in
     let at-enum-told = at-block-at .before in
     let at-ask-slot = at-enum-told .before .before in
@@ -117,17 +115,10 @@ returns-2 c =
     let a = s .args in
     let img = a .image .now in
     let st = setting (a .granule) (a .v .spt0) (a .v .spt1) in
-    let t = at-block-at .block-at .result .now in
-    let p = at-block-at2 .block-at2 .result .now in
-    let n = at-entry-count .entry-count .result in
-    begins-started (c .begun .result) (length img) (a .granule) (job st img (a .v) (enable (a .slot .0)))
-    (at-enable-job .enable-job .result)
-    (enable-steps (a .v .cpb0) (a .v .cpb1) (slot-starts (rows n t)) p (a .slot .0)) (c .begun .ensures)
-    (at-enable-job .enable-job .ensures)
-    (enable-given st img (a .v) (s .pre) (a .slot .0) (at-ask-slot .ask-slot .result)
-    (at-ask-slot .ask-slot .ensures) (at-enum-told .enum-told .given .1) t n
-    (at-block-at .block-at .ensures .0) (at-entry-count .entry-count .ensures) p
-    (at-block-at2 .block-at2 .ensures .0))
+    enable-started st img (a .v) (s .pre) (a .slot .0) (at-ask-slot .ask-slot .result)
+    (at-ask-slot .ask-slot .ensures) (at-enum-told .enum-told .given .1) (at-block-at .block-at .result .now)
+    (at-block-at2 .block-at2 .result .now) (at-block-at .block-at .ensures .0) (at-block-at2 .block-at2 .ensures .0)
+    (c .begun .result) (at-enable-job .enable-job .result) (c .begun .ensures) (at-enable-job .enable-job .ensures)
 
 pub enable-by-spec : {M : Type 1} → statement M
 enable-by-spec =
@@ -139,8 +130,8 @@ enable-by-spec =
     enum-told
     block-at-requires
     block-at-requires-2
-    entry-count-requires
-    last-slots-requires
+    rows-of-requires
+    places-of-requires
     cast-enable-job
     cast-enable-job-2
     enable-job-requires

@@ -1,14 +1,12 @@
 -- `repair_by` starts repair as its definition says. Assumes nothing.
-use mathlib.Core.List.{_++_}
-use lib.ListN.{length}
+use mathlib.Core.Path.{_∙_}
 use native.Mathlib.Omega.{arith}
 use borrow.Author.Needs.{needs}
 use Rattle.rules.specs.Numbers.{setting}
-use Rattle.rules.specs.Commands.{job, repair}
-use Rattle.blocks.proofs.JobSteps.{lists-same}
-use Rattle.commands.specs.Asked.{Located, repaired}
+use Rattle.commands.specs.JobFor.{repair-job}
+use Rattle.commands.specs.Asked.{Located}
 use Rattle.commands.proofs.Locating.{located}
-use Rattle.commands.proofs.Asking.{begins-started, repair-given}
+use Rattle.commands.proofs.Asking.{repair-started}
 use Rattle.commands.proofs.pairs.repair_by.Statement.{statement}
 use Rattle.commands.proofs.pairs.repair_by.Tie as tie
 
@@ -37,20 +35,15 @@ begun-requires : tie.Need-begun-requires
 begun-requires c κs = search needs
 
 returns : tie.Need-returns
+unfolding repair-job
 returns c =
     let at-rewrites = c .before in
     let at-repaired2 = at-rewrites .before in
     let at-repaired = at-repaired2 .before in
-    let s = at-repaired .before .before in
-    let a = s .args in
-    let img = a .image .now in
-    let st = setting (a .granule) (a .v .spt0) (a .v .spt1) in
-    begins-started (c .begun .result) (length img) (a .granule) (job st img (a .v) repair)
-    (at-rewrites .rewrites .result)
-    (repaired img (a .v .spt0) (a .v .spt1) (a .v .table) ++ repaired img (a .v .cpb0) (a .v .cpb1) (a .v .pointers))
-    (c .begun .ensures) (lists-same (at-rewrites .rewrites .ensures) (rw
-    (at-repaired .repaired .ensures, at-repaired2 .repaired2 .ensures)))
-    (repair-given st img (a .v) (s .pre))
+    let a = at-repaired .before .before .args in
+    repair-started (setting (a .granule) (a .v .spt0) (a .v .spt1)) (a .image .now) (a .v) (c .begun .result)
+    (at-rewrites .rewrites .result) (c .begun .ensures)
+    (at-rewrites .rewrites .ensures ∙ rw (at-repaired .repaired .ensures, at-repaired2 .repaired2 .ensures))
 
 pub repair-by-spec : {M : Type 1} → statement M
 repair-by-spec =

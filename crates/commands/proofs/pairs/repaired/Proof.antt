@@ -1,15 +1,9 @@
--- `repaired` denotes the repair of one pair. Assumes nothing.
-use mathlib.Core.List.{[]}
-use mathlib.Core.Bool.{cond}
+-- `repaired` is the repair of one pair. Assumes nothing.
 use native.Mathlib.Omega.{arith}
 use lib.Dec.{eqb}
 use borrow.Author.Needs.{needs}
-use Rattle.rules.specs.Lists.{same}
-use Rattle.rules.specs.Bytes.{block}
-use Rattle.rules.specs.Steps.{rewrite}
-use Rattle.blocks.specs.Made.{rewriting}
-use Rattle.commands.specs.Asked.{repaired}
-use Rattle.commands.proofs.EqualCopies.{cond-not, either-within}
+use Rattle.commands.specs.JobFor.{repaired}
+use Rattle.commands.proofs.EqualCopies.{either-within}
 use Rattle.commands.proofs.pairs.repaired.Statement.{statement}
 use Rattle.commands.proofs.pairs.repaired.Tie as tie
 
@@ -32,22 +26,16 @@ copied-requires : tie.Need-copied-requires
 copied-requires c κs = search needs
 
 returns : tie.Need-returns
-unfolding rewriting repaired
+unfolding repaired
 returns c =
     let at-block-at = c .before in
     let at-other-copy = at-block-at .before in
-    let at-same-blocks = at-other-copy .before in
-    let start = at-same-blocks .before .before in
-    let a = start .args in
-    let img = a .image .now in
     rw (
-      at-same-blocks .same-blocks .ensures,
+      at-other-copy .before .same-blocks .ensures,
       at-other-copy .other-copy .ensures,
       c .copied .ensures,
       at-block-at .block-at .ensures .0,
     )
-    (cond-not (rewrite (cond (eqb (a .read) (a .a0)) (a .a1) (a .a0)) (block img (a .read))) []
-    (same (block img (a .a0)) (block img (a .a1))))
 
 pub repaired-spec : {M : Type 1} → statement M
 repaired-spec =

@@ -6,6 +6,7 @@ use borrow.Author.Tests.{not-true, not-false}
 use borrow.Author.Needs.{needs}
 use Rattle.commands.specs.Asked.{outcome, copies-equal}
 use Rattle.commands.proofs.Asking.{copies-differ, no-such-slot, slot-found}
+use Rattle.commands.proofs.Locating.{has-entries}
 use Rattle.commands.proofs.refusals.ask_slot.Statement.{statement}
 use Rattle.commands.proofs.refusals.ask_slot.Tie as tie
 
@@ -35,11 +36,9 @@ entry-count-requires c κs = search needs
 count-slots-requires : tie.Need-count-slots-requires
 count-slots-requires c κs =
     let at-block-at = c .before in
-    let start = at-block-at .before .before .before .before .before in (
-      at-block-at .block-at .ensures .1,
-      rw (c .entry-count .ensures, at-block-at .block-at .ensures .0)
-          (start .pre .count-right),
-    )
+    let start = at-block-at .before .before .before .before .before in
+    has-entries (start .args .image .now) (start .args .v) (start .pre) (at-block-at .block-at .result .now)
+    (c .entry-count .result) (at-block-at .block-at .ensures) (c .entry-count .ensures)
 
 cast-if2 : tie.Need-cast-if2
 cast-if2 c = search needs

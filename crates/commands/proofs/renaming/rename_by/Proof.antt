@@ -1,5 +1,5 @@
 -- `rename_by` refuses or starts rename as its definition says. Assumes nothing.
-use mathlib.Core.Path.{refl}
+use mathlib.Core.Path.{refl, _∙_}
 use Prim.Native.Nat.{_≤_}
 use native.Mathlib.Omega.{arith}
 use lib.ListN.{length}
@@ -7,16 +7,15 @@ use borrow.Author.Needs.{needs}
 use Rattle.rules.specs.Numbers.{setting}
 use Rattle.rules.specs.Bytes.{block}
 use Rattle.rules.specs.Table.{entry-count}
-use Rattle.rules.specs.Commands.{rename-steps, job, rename}
+use Rattle.rules.specs.Commands.{rename}
 use Rattle.rules.proofs.Renaming.{allowed}
 use Rattle.walks.specs.Entries.{most-entries}
 use Rattle.walks.proofs.Joined.{failed, passed}
 use Rattle.blocks.proofs.Naming.{whole-name}
-use Rattle.blocks.proofs.JobSteps.{lists-same}
 use Rattle.commands.specs.Asked.{Located}
-use Rattle.commands.proofs.Locating.{located}
-use Rattle.commands.proofs.CommandSteps.{rename-by-row}
-use Rattle.commands.proofs.Asking.{begins-refused, begins-started, rename-refused, rename-refused-9, rename-refused-10, rename-given, row-below}
+use Rattle.commands.proofs.Locating.{located, has-entries}
+use Rattle.commands.proofs.CommandJobs.{rename-by-row}
+use Rattle.commands.proofs.Asking.{returns-refused, rename-refused, rename-refused-9, rename-refused-10, rename-started, row-below}
 use Rattle.commands.proofs.renaming.rename_by.Statement.{statement}
 use Rattle.commands.proofs.renaming.rename_by.Tie as tie
 
@@ -57,8 +56,7 @@ returns c =
     let img = a .image .now in
     let st = setting (a .granule) (a .v .spt0) (a .v .spt1) in
     let t = block img (a .v .table) in
-    begins-refused (c .refuse2 .result) (length img) (a .granule) (job st img (a .v) (rename (a .slot .0)
-    (a .name .now))) 9
+    returns-refused st img (a .v) (rename (a .slot .0) (a .name .now)) (c .refuse2 .result) 9
     (c .refuse2 .ensures)
     (rename-refused-9 st img (a .v) (s .pre) (a .slot .0) (at-ask-slot .ask-slot .result)
     (at-ask-slot .ask-slot .ensures) (at-enum-told .enum-told .given .1) t
@@ -76,22 +74,16 @@ slot-row-requires : tie.Need-slot-row-requires
 slot-row-requires c κs =
     let at-block-at = c .before in
     let s = at-block-at .before .before .before .before .before .before .before .before in
-    let l = where-blocks-are s in (
-      at-block-at .block-at .ensures .1,
-      rw (c .entry-count .ensures, at-block-at .block-at .ensures .0)
-          (l .count-right),
-    )
+    has-entries (s .args .image .now) (s .args .v) (where-blocks-are s) (at-block-at .block-at .result .now)
+    (c .entry-count .result) (at-block-at .block-at .ensures) (c .entry-count .ensures)
 
 name-free-requires : tie.Need-name-free-requires
 name-free-requires c κs =
     let at-entry-count = c .before in
     let at-block-at = at-entry-count .before in
     let s = at-block-at .before .before .before .before .before .before .before .before in
-    let l = where-blocks-are s in (
-      at-block-at .block-at .ensures .1,
-      rw (at-entry-count .entry-count .ensures, at-block-at .block-at .ensures .0)
-          (l .count-right),
-    )
+    has-entries (s .args .image .now) (s .args .v) (where-blocks-are s) (at-block-at .block-at .result .now)
+    (at-entry-count .entry-count .result) (at-block-at .block-at .ensures) (at-entry-count .entry-count .ensures)
 
 refuse-requires-3 : tie.Need-refuse-requires-3
 refuse-requires-3 c κs = search needs
@@ -113,8 +105,7 @@ returns-2 c =
     let st = setting (a .granule) (a .v .spt0) (a .v .spt1) in
     let name-right = passed (at-name-allowed .name-allowed .ensures) (at-if1 .if1 .left) in
     let whole = whole-name (a .name .now) (allowed (a .name .now) name-right .without-zero) in
-    begins-refused (c .refuse3 .result) (length img) (a .granule) (job st img (a .v) (rename (a .slot .0)
-    (a .name .now))) 10
+    returns-refused st img (a .v) (rename (a .slot .0) (a .name .now)) (c .refuse3 .result) 10
     (c .refuse3 .ensures)
     (rename-refused-10 st img (a .v) (s .pre) (a .slot .0) (at-ask-slot .ask-slot .result)
     (at-ask-slot .ask-slot .ensures) (at-enum-told .enum-told .given .1)
@@ -168,8 +159,7 @@ returns-3 c =
     let a = s .args in
     let img = a .image .now in
     let st = setting (a .granule) (a .v .spt0) (a .v .spt1) in
-    begins-refused (c .refuse .result) (length img) (a .granule) (job st img (a .v) (rename (a .slot .0)
-    (a .name .now)))
+    returns-refused st img (a .v) (rename (a .slot .0) (a .name .now)) (c .refuse .result)
     (at-asked .asked .given .0 .0) (c .refuse .ensures)
     (rename-refused st img (a .v) (s .pre) (a .slot .0) (at-ask-slot .ask-slot .result)
     (at-ask-slot .ask-slot .ensures) (a .name .now)
@@ -200,19 +190,15 @@ returns-4 c =
     (at-ask-slot .ask-slot .ensures)
     (at-enum-told .enum-told .given .1) t n (at-block-at .block-at .ensures .0)
     (at-entry-count .entry-count .ensures) row (at-slot-row .slot-row .ensures .0) in
-    begins-started (c .begun .result) (length img) (a .granule) (job st img (a .v) (rename (a .slot .0)
-    (a .name .now)))
-    (at-rename-job .rename-job .result) (rename-steps (a .v .spt0) (a .v .spt1) t (a .slot .0) (a .name .now))
-    (c .begun .ensures)
-    (lists-same (at-rename-job .rename-job .ensures)
-    (rename-by-row (a .v .spt0) (a .v .spt1) (a .slot .0) row n t (a .name .now)
-    (at-entry-count .entry-count .ensures) (at-slot-row .slot-row .ensures .0)
-    row-counted whole))
-    (rename-given st img (a .v) (s .pre) (a .slot .0) (at-ask-slot .ask-slot .result)
+    rename-started st img (a .v) (s .pre) (a .slot .0) (at-ask-slot .ask-slot .result)
     (at-ask-slot .ask-slot .ensures) (at-enum-told .enum-told .given .1) t n
     (at-block-at .block-at .ensures .0) (at-entry-count .entry-count .ensures) (a .name .now) name-right
     (passed (rw (at-slot-row .slot-row .ensures .0, whole) at (at-name-free .name-free .ensures))
-    (at-if2 .if2 .left)))
+    (at-if2 .if2 .left))
+    (c .begun .result) (at-rename-job .rename-job .result) (c .begun .ensures)
+    (at-rename-job .rename-job .ensures
+    ∙ rename-by-row (length img) (a .granule) (a .v .spt0) (a .v .spt1) (a .slot .0) row n t (a .name .now)
+    (at-entry-count .entry-count .ensures) (at-slot-row .slot-row .ensures .0) row-counted whole)
 
 pub rename-by-spec : {M : Type 1} → statement M
 rename-by-spec =

@@ -1,7 +1,6 @@
--- `rename_job` denotes the listed steps of rename. Assumes nothing.
+-- `rename_job` is the job of rename. Assumes nothing.
 use mathlib.Core.Path.{sym, _∙_}
 use borrow.Author.Needs.{needs}
-use Rattle.blocks.proofs.JobSteps.{lists-same}
 use Rattle.commands.proofs.renaming.rename_job.Statement.{statement}
 use Rattle.commands.proofs.renaming.rename_job.Tie as tie
 
@@ -14,7 +13,7 @@ no-steps-requires c κs = search needs
 returns : tie.Need-returns
 returns c =
     let same-name = sym (c .before .before .has-name .ensures) ∙ c .before .if1 .taken in
-    lists-same (c .no-steps .ensures) (rw same-name)
+    c .no-steps .ensures ∙ rw same-name
 
 with-name-requires : tie.Need-with-name-requires
 with-name-requires c κs = search needs
@@ -25,7 +24,7 @@ pair-rewritten-requires c κs = search needs
 returns-2 : tie.Need-returns-2
 returns-2 c =
     let other-name = sym (c .before .before .before .has-name .ensures) ∙ c .before .before .if1 .left in
-    lists-same (c .pair-rewritten .ensures) (rw (other-name, c .before .with-name .ensures))
+    c .pair-rewritten .ensures ∙ rw (other-name, c .before .with-name .ensures)
 
 pub rename-job-spec : {M : Type 1} → statement M
 rename-job-spec =

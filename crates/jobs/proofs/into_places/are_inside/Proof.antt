@@ -25,8 +25,8 @@ least-requires c κs = search needs
 loop-holds : tie.Need-loop-holds Inv-loop μ-loop
 loop-holds c = search needs
 
-number-at-requires : tie.Need-number-at-requires Inv-loop μ-loop
-number-at-requires c κs = search needs
+place-at-requires : tie.Need-place-at-requires Inv-loop μ-loop
+place-at-requires c κs = search needs
 
 place-address-requires : tie.Need-place-address-requires Inv-loop μ-loop
 place-address-requires c κs = search needs
@@ -38,16 +38,16 @@ returns : tie.Need-returns Inv-loop μ-loop
 returns c =
     let at-are-inside = c .before in
     let at-place-address = at-are-inside .before in
-    let at-number = at-place-address .before in
-    let at = at-number .before .before in
+    let at-place = at-place-address .before in
+    let at = at-place .before .before in
     let a = at .before .before .before .args in
     let outside = sym (at-are-inside .are-inside .ensures) ∙ not-true (at-are-inside .are-inside .result)
     (c .if1 .taken) in
     sym (at .loop .inv .1
-    ∙ inside-cons (a .len) (a .at) (a .offset) (at .loop .skip) (at-number .number-at .result)
+    ∙ inside-cons (a .len) (a .at) (a .offset) (at .loop .skip) (at-place .place-at .result .0)
     (drop (at .loop .i + 1) (meant (a .count) (a .places .now))) (drop (at .loop .i) (meant (a .count) (a .places .now)))
     (at-place-address .place-address .result) (at-place-address .place-address .ensures .0)
-    (number-cons (min (a .count) place-room) (at .loop .i) (at-number .number-at .result) (a .places .now) (at-number .number-at .ensures) (omega arith))
+    (number-cons (min (a .count) place-room) (at .loop .i) (at-place .place-at .result .0) (a .places .now) (at-place .place-at .ensures .0) (omega arith))
     ∙ rw outside)
 
 less-requires : tie.Need-less-requires Inv-loop μ-loop
@@ -64,17 +64,17 @@ loop-again c =
     let at-if1 = c .before in
     let at-are-inside = at-if1 .before in
     let at-place-address = at-are-inside .before in
-    let at-number = at-place-address .before in
-    let at = at-number .before .before in
+    let at-place = at-place-address .before in
+    let at = at-place .before .before in
     let a = at .before .before .before .args in
     let inside = sym (at-are-inside .are-inside .ensures) ∙ not-false (at-are-inside .are-inside .result)
     (at-if1 .if1 .left) in (
       omega arith,
       at .loop .inv .1
-          ∙ inside-cons (a .len) (a .at) (a .offset) (at .loop .skip) (at-number .number-at .result)
+          ∙ inside-cons (a .len) (a .at) (a .offset) (at .loop .skip) (at-place .place-at .result .0)
           (drop (at .loop .i + 1) (meant (a .count) (a .places .now))) (drop (at .loop .i) (meant (a .count) (a .places .now)))
           (at-place-address .place-address .result) (at-place-address .place-address .ensures .0)
-          (number-cons (min (a .count) place-room) (at .loop .i) (at-number .number-at .result) (a .places .now) (at-number .number-at .ensures) (omega arith))
+          (number-cons (min (a .count) place-room) (at .loop .i) (at-place .place-at .result .0) (a .places .now) (at-place .place-at .ensures .0) (omega arith))
           ∙ rw (inside, c .less .ensures),
     )
 
@@ -94,7 +94,7 @@ are-inside-spec =
     μ-loop
     least-requires
     loop-holds
-    number-at-requires
+    place-at-requires
     place-address-requires
     are-inside-requires
     returns

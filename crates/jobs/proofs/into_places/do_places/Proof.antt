@@ -1,29 +1,29 @@
--- `do_places` does at most n of the steps into places from one on. Assumes nothing.
+-- `do_places` does the steps into places that are in a window. Assumes nothing.
 use mathlib.Core.Path.{_≡_, refl, sym, _∙_}
 use mathlib.Core.Bool.{true}
 use Prim.Native.Nat.{ℕ, _+_, _-_, _≤_, min}
 use native.Mathlib.Omega.{arith}
-use lib.ListN.{length, take, drop}
+use lib.ListN.{length, drop}
 use borrow.Author.Needs.{needs}
 use Rattle.rules.proofs.Tests.{and-true}
 use Rattle.rules.specs.Steps.{steps}
 use Rattle.rules.specs.Commands.{into-places}
 use Rattle.jobs.specs.Jobs.{place-room, meant}
-use Rattle.jobs.specs.Parts.{programs-inside, places-inside}
+use Rattle.jobs.specs.Parts.{chosen, beyond, programs-inside, places-inside}
 use Rattle.jobs.proofs.PlaceNumbers.{number-cons, numbers-over}
 use Rattle.jobs.proofs.PlaceSteps.{inside-cons, places-step, steps-none}
 use Rattle.jobs.proofs.into_places.do_places.Statement.{statement}
 use Rattle.jobs.proofs.into_places.do_places.Tie as tie
 
 abbrev Inv-loop : tie.InvT-loop
-Inv-loop image₀ at offset places count value from n end skip₀ m₀ i₀ image skip m i =
+Inv-loop image₀ at offset places count value end rest₀ i₀ image rest i =
     ((i ≤ end) × (length image ≡ length image₀))
-    × ((places-inside (length image) at offset skip (drop i (meant count places)) ≡ true)
-    × ((g : ℕ) → steps g (take n (drop from (into-places at offset value (meant count places)))) image₀
-    ≡ steps g (take m (drop skip (into-places at offset value (drop i (meant count places))))) image))
+    × ((places-inside (length image) at offset (rest .from) (drop i (meant count places)) ≡ true)
+    × ((g : ℕ) → steps g (chosen rest₀ (into-places at offset value (meant count places))) image₀
+    ≡ steps g (chosen rest (into-places at offset value (drop i (meant count places)))) image))
 
 abbrev μ-loop : tie.MeasureT-loop
-μ-loop image₀ at offset places count value from n end skip₀ m₀ i₀ image skip m i = end - i
+μ-loop image₀ at offset places count value end rest₀ i₀ image rest i = end - i
 
 least-requires : tie.Need-least-requires Inv-loop μ-loop
 least-requires c κs = search needs
@@ -33,36 +33,30 @@ loop-holds c =
     let s = c .before .before .before .before in
     ((search needs, search needs), (s .pre .1, λ g. refl))
 
-number-at-requires : tie.Need-number-at-requires Inv-loop μ-loop
-number-at-requires c κs = search needs
+place-at-requires : tie.Need-place-at-requires Inv-loop μ-loop
+place-at-requires c κs = search needs
 
 place-address-requires : tie.Need-place-address-requires Inv-loop μ-loop
 place-address-requires c κs = search needs
 
 do-place-requires : tie.Need-do-place-requires Inv-loop μ-loop
 do-place-requires c κs =
-    let at-number = c .before .before in
-    let at = at-number .before .before in
+    let at-place = c .before .before in
+    let at = at-place .before .before in
     let s = at .before .before .before .before .before in
     let a = s .args in
     let i = at .loop .i in
+    let place = at-place .place-at .result .0 in
     let rest = drop (i + 1) (meant (a .count) (a .places .now)) in
-    let all-inside = inside-cons (length (at .loop .image)) (a .at) (a .offset) (at .loop .skip) (at-number .number-at .result) rest
+    let len = length (at .loop .image) in
+    let from = at .loop .rest .from in
+    let all-inside = inside-cons len (a .at) (a .offset) from place rest
     (drop i (meant (a .count) (a .places .now))) (c .place-address .result) (c .place-address .ensures .0)
-    (number-cons (min (a .count) place-room) i (at-number .number-at .result) (a .places .now) (at-number .number-at .ensures) (omega arith)) in
-    let this-inside = and-true (programs-inside (length (at .loop .image)) (c .place-address .result) 8 (at .loop .skip))
-    (places-inside (length (at .loop .image)) (a .at) (a .offset) (at .loop .skip - 8) rest)
+    (number-cons (min (a .count) place-room) i place (a .places .now) (at-place .place-at .ensures .0) (omega arith)) in
+    let this-inside = and-true (programs-inside len (c .place-address .result) 8 from)
+    (places-inside len (a .at) (a .offset) (from - 8) rest)
     (sym all-inside ∙ at .loop .inv .1 .0) .0 in
     (s .pre .0 .1, this-inside)
-
-less-requires : tie.Need-less-requires Inv-loop μ-loop
-less-requires c κs = search needs
-
-less-requires-2 : tie.Need-less-requires-2 Inv-loop μ-loop
-less-requires-2 c κs = search needs
-
-less-requires-3 : tie.Need-less-requires-3 Inv-loop μ-loop
-less-requires-3 c κs = search needs
 
 add-i : tie.Need-add-i Inv-loop μ-loop
 add-i c = search needs
@@ -71,39 +65,38 @@ loop-less : tie.Need-loop-less Inv-loop μ-loop
 loop-less c = search needs
 
 loop-again : tie.Need-loop-again Inv-loop μ-loop
+unfolding beyond
 loop-again c =
-    let at-less2 = c .before in
-    let at-less = at-less2 .before in
-    let at-do-place = at-less .before .before .before in
+    let at-do-place = c .before .before in
     let at-place-address = at-do-place .before in
-    let at-number = at-place-address .before .before in
-    let at-loop-test = at-number .before in
+    let at-place = at-place-address .before .before in
+    let at-loop-test = at-place .before in
     let at = at-loop-test .before in
     let s = at .before .before .before .before .before in
     let a = s .args in
     let i = at .loop .i in
-    let place = at-number .number-at .result in
+    let place = at-place .place-at .result .0 in
     let rest = drop (i + 1) (meant (a .count) (a .places .now)) in
     let here = drop i (meant (a .count) (a .places .now)) in
     let len = length (at .loop .image) in
-    let cons = number-cons (min (a .count) place-room) i (at-number .number-at .result) (a .places .now) (at-number .number-at .ensures) (omega (arith, at-loop-test .loop-test)) in
-    let all-inside = inside-cons len (a .at) (a .offset) (at .loop .skip) place rest here
+    let from = at .loop .rest .from in
+    let cons = number-cons (min (a .count) place-room) i place (a .places .now) (at-place .place-at .ensures .0)
+    (omega (arith, at-loop-test .loop-test)) in
+    let all-inside = inside-cons len (a .at) (a .offset) from place rest here
     (at-place-address .place-address .result)
     (at-place-address .place-address .ensures .0) cons in
-    let rest-inside = and-true (programs-inside len (at-place-address .place-address .result) 8 (at .loop .skip))
-    (places-inside len (a .at) (a .offset) (at .loop .skip - 8) rest) (sym all-inside ∙ at .loop .inv .1 .0) .1 in
+    let rest-inside = and-true (programs-inside len (at-place-address .place-address .result) 8 from)
+    (places-inside len (a .at) (a .offset) (from - 8) rest) (sym all-inside ∙ at .loop .inv .1 .0) .1 in
     let kept = at-do-place .do-place .kept .0 in (
       (omega (arith, at-loop-test .loop-test), kept ∙ at .loop .inv .0 .1),
       (
-        rw (kept, c .less3 .ensures) rest-inside,
+        rw (kept, at-do-place .do-place .ensures .0) rest-inside,
         λ g. at .loop .inv .1 .1 g
-            ∙ places-step (a .at) (a .offset) (a .value .now) (s .pre .0 .1) g (at .loop .m) (at .loop .skip)
-            (at-less2 .less2 .result)
-            (c .less3 .result) place (at-place-address .place-address .result) rest here (at .loop .image)
-            (at-do-place .do-place .last .0)
-            (at-place-address .place-address .ensures .0) cons (at-less2 .less2 .ensures ∙ rw
-            (at-less .less .ensures)) (c .less3 .ensures)
-            (at-do-place .do-place .ensures g),
+            ∙ places-step (a .at) (a .offset) (a .value .now) (s .pre .0 .1) g (at .loop .rest)
+            (at-do-place .do-place .result) place (at-place-address .place-address .result) rest here
+            (at .loop .image) (at-do-place .do-place .last .0)
+            (at-place-address .place-address .ensures .0) cons (at-do-place .do-place .ensures .0)
+            (at-do-place .do-place .ensures .1 g),
       ),
     )
 
@@ -116,7 +109,7 @@ returns c =
     let s = at .before .before .before .before .before in
     let a = s .args in
     λ g. sym (at .loop .inv .1 .1 g
-    ∙ steps-none (a .at) (a .offset) (a .value .now) (s .pre .0 .1) g (at .loop .m) (at .loop .skip)
+    ∙ steps-none (a .at) (a .offset) (a .value .now) (s .pre .0 .1) g (at .loop .rest)
     (drop (at .loop .i) (meant (a .count) (a .places .now))) (at .loop .image)
     (numbers-over (min (a .count) place-room) (at .loop .i) (a .places .now) (omega arith)))
 
@@ -128,12 +121,9 @@ do-places-spec =
     μ-loop
     least-requires
     loop-holds
-    number-at-requires
+    place-at-requires
     place-address-requires
     do-place-requires
-    less-requires
-    less-requires-2
-    less-requires-3
     add-i
     loop-less
     loop-again

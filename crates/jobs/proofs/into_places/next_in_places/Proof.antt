@@ -19,8 +19,8 @@ returns c =
     sym (no-next-place (a .at) (a .offset) (a .value .now) (s .pre .1) (a .from) (meant (a .count) (a .places .now))
     (rw (length-numbers (min (a .count) place-room) (a .places .now)) (omega arith)))
 
-number-at-requires : tie.Need-number-at-requires
-number-at-requires c κs = search needs
+place-at-requires : tie.Need-place-at-requires
+place-at-requires c κs = search needs
 
 place-address-requires : tie.Need-place-address-requires
 place-address-requires c κs = search needs
@@ -31,13 +31,13 @@ next-program-requires c κs = search needs
 returns-2 : tie.Need-returns-2
 returns-2 c =
     let at-place-address = c .before in
-    let at-number = at-place-address .before in
-    let s = at-number .before .before .before .before .before in
+    let at-place = at-place-address .before in
+    let s = at-place .before .before .before .before .before in
     let a = s .args in
     c .next-program .ensures
     ∙ next-place-read (a .at) (a .offset) (a .value .now) (s .pre .1) (a .from) (min (a .count) place-room)
-    (a .places .now) (at-number .number-at .result) (at-place-address .place-address .result)
-    (at-number .number-at .ensures) (at-place-address .place-address .ensures .0) (omega arith)
+    (a .places .now) (at-place .place-at .result .0) (at-place-address .place-address .result)
+    (at-place .place-at .ensures .0) (at-place-address .place-address .ensures .0) (omega arith)
 
 pub next-in-places-spec : {M : Type 1} → statement M
 next-in-places-spec =
@@ -45,7 +45,7 @@ next-in-places-spec =
     (tie.spec
     least-requires
     returns
-    number-at-requires
+    place-at-requires
     place-address-requires
     next-program-requires
     returns-2)

@@ -1,11 +1,11 @@
--- `do_part` does at most n of a part's steps from one on. Assumes nothing.
+-- `do_part` does a part's steps that are in a window. Assumes nothing.
 use mathlib.Core.Path.{_∙_}
 use native.Mathlib.Omega.{arith}
 use lib.Seq.{drop-nil, take-nil}
 use borrow.Author.Needs.{needs}
 use Rattle.rules.specs.Steps.{steps}
 use Rattle.jobs.specs.Jobs.{part}
-use Rattle.jobs.specs.Parts.{part-inside}
+use Rattle.jobs.specs.Parts.{chosen, part-inside}
 use Rattle.jobs.proofs.parts.do_part.Statement.{statement}
 use Rattle.jobs.proofs.parts.do_part.Tie as tie
 
@@ -33,11 +33,11 @@ do-places-requires c κs =
     ((s .pre .0 .places, s .pre .0 .value), rw (at-enum-told3 .enum-told3 .given .1) at (s .pre .1))
 
 returns : tie.Need-returns
-unfolding part steps
+unfolding part steps chosen
 returns c =
     let start = c .before .before .before .before .before .before in
     let a = start .args in
-    rw (c .enum-told .given .1, drop-nil (a .from), take-nil (a .n))
+    rw (c .enum-told .given .1, drop-nil (a .window .from), take-nil (a .window .n))
 
 same-length : tie.Need-same-length
 same-length c = search needs
@@ -58,7 +58,7 @@ returns-3 c =
     let at-do-places = c .before .before in
     let at-enum-told3 = at-do-places .before .before in
     let start = at-enum-told3 .before .before .before .before .before .before in
-    at-do-places .do-places .ensures (start .args .granule) ∙ rw (at-enum-told3 .enum-told3 .given .1)
+    at-do-places .do-places .ensures (start .args .plan .granule) ∙ rw (at-enum-told3 .enum-told3 .given .1)
 
 pub do-part-spec : {M : Type 1} → statement M
 do-part-spec =

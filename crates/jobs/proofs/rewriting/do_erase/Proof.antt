@@ -1,4 +1,4 @@
--- `do_erase` erases where the erase is among the steps asked for. Assumes nothing.
+-- `do_erase` erases where the erase is in the window. Assumes nothing.
 use mathlib.Core.Path.{_∙_}
 use lib.ListN.{length}
 use borrow.Author.Needs.{needs}
@@ -6,16 +6,21 @@ use Rattle.jobs.proofs.RewriteSteps.{no-erase, one-erase, erase-fits}
 use Rattle.jobs.proofs.rewriting.do_erase.Statement.{statement}
 use Rattle.jobs.proofs.rewriting.do_erase.Tie as tie
 
+beyond-requires : tie.Need-beyond-requires
+beyond-requires c κs = search needs
+
 returns : tie.Need-returns
 returns c =
-    let a = c .before .before .args in
-    no-erase (a .granule) (a .n) (a .from) (a .at) (a .image .now) (c .if1 .taken)
+    let at-beyond = c .before .before .before in
+    let a = at-beyond .before .before .args in
+    (at-beyond .beyond .ensures, no-erase (a .granule) (a .at) (a .window) (a .image .now) (c .if1 .taken))
 
 erase-requires : tie.Need-erase-requires
 erase-requires c κs =
-    let s = c .before .before .before in
+    let at-if1 = c .before in
+    let s = at-if1 .before .before .before .before .before in
     let a = s .args in
-    erase-fits (a .granule) (length (a .image .now)) (a .at) (a .from) (a .n) (s .pre) (c .before .if1 .left)
+    erase-fits (a .granule) (length (a .image .now)) (a .at) (a .window .from) (a .window .n) (s .pre) (at-if1 .if1 .left)
 
 same-length : tie.Need-same-length
 same-length c = search needs
@@ -24,10 +29,11 @@ returns-2 : tie.Need-returns-2
 returns-2 c =
     let at-erase = c .before .before in
     let at-if1 = at-erase .before .before in
-    let start = at-if1 .before .before in
-    let a = start .args in
-    at-erase .erase .ensures
-    ∙ one-erase (a .granule) (a .n) (a .from) (a .at) (a .image .now) (at-if1 .if1 .left)
+    let at-beyond = at-if1 .before .before .before in
+    let a = at-beyond .before .before .args in (
+      at-beyond .beyond .ensures,
+      at-erase .erase .ensures ∙ one-erase (a .granule) (a .at) (a .window) (a .image .now) (at-if1 .if1 .left),
+    )
 
 pub do-erase-spec : {M : Type 1} → statement M
-do-erase-spec = tie.close (tie.spec returns erase-requires same-length returns-2)
+do-erase-spec = tie.close (tie.spec beyond-requires returns erase-requires same-length returns-2)

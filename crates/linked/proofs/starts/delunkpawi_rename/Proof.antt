@@ -1,17 +1,18 @@
 -- `delunkpawi_rename` starts rename into a buffer. Assumes nothing.
-use lib.ListN.{length}
 use borrow.Author.Needs.{needs}
 use Rattle.rules.specs.Numbers.{setting}
-use Rattle.rules.specs.Commands.{start, rename}
-use Rattle.linked.proofs.Beginning.{other-length, begun-right}
+use Rattle.rules.specs.Commands.{rename}
+use Rattle.commands.specs.Begins.{start-result}
+use Rattle.linked.specs.Begun.{handed}
+use Rattle.linked.proofs.Beginning.{other-length, right-length}
 use Rattle.linked.proofs.starts.delunkpawi_rename.Statement.{statement}
 use Rattle.linked.proofs.starts.delunkpawi_rename.Tie as tie
 
 returns : tie.Need-returns
 returns c =
     let a = c .before .before .before .before .args in
-    other-length (a .job .now) (length (a .image .now)) (a .granule)
-    (start (setting (a .granule) (a .spt0) (a .spt1)) (a .image .now) (rename (a .slot) (a .name .now))) (c .if1 .taken)
+    other-length (a .job .now)
+    (start-result (setting (a .granule) (a .spt0) (a .spt1)) (a .image .now) (rename (a .slot) (a .name .now))) (c .if1 .taken)
 
 start-rename-requires : tie.Need-start-rename-requires
 start-rename-requires c κs = search needs
@@ -28,9 +29,9 @@ returns-2 c =
     let at-start = at-hand-over .before .before in
     let at-if1 = at-start .before in
     let a = c .before .before .before .before .before .before .before .before .before .args in
-    begun-right (a .job .now) (length (a .image .now)) (a .granule)
-    (start (setting (a .granule) (a .spt0) (a .spt1)) (a .image .now) (rename (a .slot) (a .name .now)))
-    (at-start .start-rename .result) (at-hand-over .hand-over .result) (at-hand-over .hand-over .last .1 .0)
+    right-length (a .job .now) (at-start .start-rename .result)
+    (start-result (setting (a .granule) (a .spt0) (a .spt1)) (a .image .now) (rename (a .slot) (a .name .now)))
+    (handed (at-hand-over .hand-over .result) (at-hand-over .hand-over .last .1 .0))
     (at-if1 .if1 .left) (at-start .start-rename .ensures) (at-hand-over .hand-over .ensures)
 
 pub delunkpawi-rename-spec : {M : Type 1} → statement M

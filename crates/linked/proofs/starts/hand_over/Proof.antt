@@ -1,7 +1,5 @@
 -- `hand_over` leaves the buffer as it was, or holding the started job. Assumes nothing.
-use mathlib.Core.Path.{refl}
 use borrow.Author.Needs.{needs}
-use Rattle.job_bytes.specs.Form.{job-over}
 use Rattle.linked.specs.Begun.{handed-over}
 use Rattle.linked.proofs.starts.hand_over.Statement.{statement}
 use Rattle.linked.proofs.starts.hand_over.Tie as tie
@@ -17,7 +15,7 @@ encode-requires c κs = search needs
 
 returns : tie.Need-returns
 unfolding handed-over
-returns c = rw (c .before .answer .given .1) (refl, refl)
+returns c = rw (c .before .answer .given .1)
 
 same-length : tie.Need-same-length
 same-length c = search needs
@@ -25,8 +23,7 @@ same-length c = search needs
 returns-2 : tie.Need-returns-2
 unfolding handed-over
 returns-2 c =
-    let stored = c .before .before .encode .ensures in
-    rw (c .before .before .before .before .before .enum-told .given .1) (refl, (job-over _ _, stored .holds, stored .same))
+    rw (c .before .before .before .before .before .enum-told .given .1, c .before .before .encode .ensures .bytes)
 
 pub hand-over-spec : {M : Type 1} → statement M
 hand-over-spec =

@@ -5,17 +5,19 @@ use Prim.Native.Nat.{_<_}
 use native.Mathlib.Omega.{arith}
 use lib.ListN.{length}
 use borrow.Author.Needs.{needs}
-use Rattle.rules.specs.Table.{rows, slot-starts}
+use Rattle.rules.specs.Table.{starts, entries}
+use Rattle.rules.specs.Copies.{order-by}
 use Rattle.rules.proofs.PointerHeader.{layout}
+use Rattle.places.proofs.Free.{count-is, free-places}
 use Rattle.places.proofs.BootOrder.{MetFrom, none-met, met-down, places-left, all-met}
 use Rattle.places.proofs.order.order_length.Statement.{statement}
 use Rattle.places.proofs.order.order_length.Tie as tie
 
 abbrev Inv-loop : tie.InvT-loop
-Inv-loop t n last p total end len₀ k₀ len k = MetFrom (slot-starts (rows n t)) p k len
+Inv-loop t rows p places total len₀ k₀ len k = MetFrom (starts t) p k len
 
 abbrev μ-loop : tie.MeasureT-loop
-μ-loop t n last p total end len₀ k₀ len k = k
+μ-loop t rows p places total len₀ k₀ len k = k
 
 left : (c : tie.In-loop Inv-loop μ-loop) → 0 < c .before .loop .k
 left c = places-left (c .before .loop .k) _ (c .loop-test .taken)
@@ -23,13 +25,11 @@ left c = places-left (c .before .loop .k) _ (c .loop-test .taken)
 slot-total-requires : tie.Need-slot-total-requires Inv-loop μ-loop
 slot-total-requires c κs = search needs
 
-free-place-requires : tie.Need-free-place-requires Inv-loop μ-loop
-free-place-requires c κs = search needs
-
 loop-holds : tie.Need-loop-holds Inv-loop μ-loop
 loop-holds c =
-    let a = c .before .before .before .before .args in
-    none-met (slot-starts (rows (a .n) (a .t .now))) (a .p .now) (c .free-place .result) (c .free-place .ensures .1)
+    let start = c .before .before .before in
+    let a = start .args in
+    none-met (starts (a .t .now)) (a .p .now) (a .places .free .0) (free-places (a .p .now) (a .places) (start .pre .1))
 
 sub-k : tie.Need-sub-k Inv-loop μ-loop
 sub-k c = left c
@@ -37,8 +37,9 @@ sub-k c = left c
 added-by-requires : tie.Need-added-by-requires Inv-loop μ-loop
 added-by-requires c κs =
     let at = c .before in
-    let start = at .before .before .before .before .before in
-    (start .pre .0, ((start .pre .1, at .before .free-place .ensures .1), omega (arith, left c)))
+    let start = at .before .before .before .before in
+    let a = start .args in
+    (start .pre .0, (start .pre .1, omega (arith, left c, count-is (a .p .now) (a .places) (start .pre .1))))
 
 growth-of-requires : tie.Need-growth-of-requires Inv-loop μ-loop
 growth-of-requires c κs = search needs
@@ -46,8 +47,8 @@ growth-of-requires c κs = search needs
 add-len : tie.Need-add-len Inv-loop μ-loop
 add-len c =
     let test = c .before .before in
-    let start = test .before .before .before .before .before .before in
-    omega (arith, left test, layout (start .args .p .now) (start .pre .1 .stands))
+    let start = test .before .before .before .before .before in
+    omega (arith, left test, layout (start .args .p .now) (start .pre .1 .block .stands))
 
 loop-less : tie.Need-loop-less Inv-loop μ-loop
 loop-less c = omega (arith, left (c .before .before))
@@ -57,17 +58,18 @@ loop-again c =
     let added = c .before in
     let test = added .before in
     let at = test .before in
-    let a = at .before .before .before .before .before .args in
+    let a = at .before .before .before .before .args in
     rw (c .growth-of .ensures .0, added .added-by .ensures)
-    (met-down (slot-starts (rows (a .n) (a .t .now))) (a .p .now) (at .loop .k) (left test) (omega arith)
+    (met-down (starts (a .t .now)) (a .p .now) (at .loop .k) (left test) (omega arith)
     (at .loop .len) (at .loop .inv))
 
 returns : tie.Need-returns Inv-loop μ-loop
+unfolding starts order-by
 returns c =
     let at = c .before in
-    let total = at .before .before .slot-total in
-    let a = at .before .before .before .before .before .args in
-    let whole = all-met (rows (a .n) (a .t .now)) (a .p .now) (at .loop .k) (at .loop .len) (total .result) (at .loop .inv)
+    let total = at .before .slot-total in
+    let a = at .before .before .before .before .args in
+    let whole = all-met (entries (a .t .now)) (a .p .now) (at .loop .k) (at .loop .len) (total .result) (at .loop .inv)
     (total .ensures .0) (c .loop-test .left) in
     at .loop .inv .count ∙ ap length (sym whole)
 
@@ -78,7 +80,6 @@ order-length-spec =
     Inv-loop
     μ-loop
     slot-total-requires
-    free-place-requires
     loop-holds
     sub-k
     added-by-requires

@@ -5,10 +5,10 @@ use Rattle.quarry_cases.proofs.printing.print_slots.Statement.{statemen
 use Rattle.quarry_cases.proofs.printing.print_slots.Tie as tie
 
 abbrev Inv-loop : tie.InvT-loop
-Inv-loop n row i₀ i = Unit {0}
+Inv-loop order row i₀ i = Unit {0}
 
 abbrev μ-loop : tie.MeasureT-loop
-μ-loop n row i₀ i = 8 - i
+μ-loop order row i₀ i = 128 - i
 
 loop-holds : tie.Need-loop-holds Inv-loop μ-loop
 loop-holds c = search needs
@@ -16,11 +16,11 @@ loop-holds c = search needs
 returns : tie.Need-returns Inv-loop μ-loop
 returns c = search needs
 
-mul-print-slot : tie.Need-mul-print-slot Inv-loop μ-loop
-mul-print-slot c = search needs
+mul-t6 : tie.Need-mul-t6 Inv-loop μ-loop
+mul-t6 c = search needs
 
-array-read-print-slot : tie.Need-array-read-print-slot Inv-loop μ-loop
-array-read-print-slot c = search needs
+array-read-t9 : tie.Need-array-read-t9 Inv-loop μ-loop
+array-read-t9 c = search needs
 
 print-slot-requires : tie.Need-print-slot-requires Inv-loop μ-loop
 print-slot-requires c κs = search needs
@@ -45,8 +45,8 @@ print-slots-spec =
     μ-loop
     loop-holds
     returns
-    mul-print-slot
-    array-read-print-slot
+    mul-t6
+    array-read-t9
     print-slot-requires
     add-i
     loop-less

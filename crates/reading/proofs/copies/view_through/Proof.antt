@@ -1,13 +1,12 @@
 -- `reading::copies::view_through` follows a table to the pointer copy read: one case for each copy, and refusal 5.
 -- Assumes nothing.
 use mathlib.Core.Path.{_≡_, sym, _∙_}
-use Prim.Native.Nat.{_≤_}
 use native.Mathlib.Omega.{arith}
 use borrow.Author.Needs.{needs}
 use Rattle.rules.specs.Bytes.{block, up-to-zero}
 use Rattle.rules.specs.Numbers.{setting}
 use Rattle.rules.specs.Table.{entries, cpb0-name, cpb1-name, cpb0-of, cpb1-of}
-use Rattle.walks.specs.Entries.{most-entries}
+use Rattle.walks.specs.Entries.{HasEntries}
 use Rattle.reading.specs.Answers.{viewed}
 use Rattle.reading.proofs.Views.{through-cpb0, through-cpb1, refused-5}
 use Rattle.reading.proofs.copies.view_through.Statement.{statement}
@@ -29,8 +28,11 @@ start-1 c =
     let n = c .before .before .before .before in
     c .named-start2 .ensures ∙ rw (n .entry-count .ensures, n .before .block-at .ensures .0)
 
-count-few : (c : tie.After-entry-count) → c .entry-count .result ≤ most-entries
-count-few c = rw (c .entry-count .ensures, c .before .block-at .ensures .0) (c .before .before .before .pre .count-right)
+has-entries : (c : tie.After-entry-count) → HasEntries (c .before .block-at .result .now) (c .entry-count .result)
+has-entries c = record {
+  whole = c .before .block-at .ensures .1;
+  few = rw (c .entry-count .ensures, c .before .block-at .ensures .0) (c .before .before .before .pre .count-right);
+}
 
 block-at-requires : tie.Need-block-at-requires
 block-at-requires c κs = search needs
@@ -42,13 +44,13 @@ slice-aggregate-named-start : tie.Need-slice-aggregate-named-start
 slice-aggregate-named-start c = search needs
 
 named-start-requires : tie.Need-named-start-requires
-named-start-requires c κs = (c .before .before .block-at .ensures .1, count-few (c .before))
+named-start-requires c κs = has-entries (c .before)
 
 slice-aggregate-named-start-2 : tie.Need-slice-aggregate-named-start-2
 slice-aggregate-named-start-2 c = search needs
 
 named-start-requires-2 : tie.Need-named-start-requires-2
-named-start-requires-2 c κs = (c .before .before .before .before .block-at .ensures .1, count-few (c .before .before .before))
+named-start-requires-2 c κs = has-entries (c .before .before .before)
 
 pointers-stand-requires : tie.Need-pointers-stand-requires
 pointers-stand-requires c κs =

@@ -36,13 +36,13 @@ slot-row-requires : tie.Need-slot-row-requires
 slot-row-requires c κs = search needs
 
 entry-start-requires : tie.Need-entry-start-requires
-entry-start-requires c κs = (c .before .before .before .before .pre .0, counted c)
+entry-start-requires c κs = (c .before .before .before .before .pre .whole, counted c)
 
 entry-size-requires : tie.Need-entry-size-requires
-entry-size-requires c κs = (c .before .before .before .before .before .pre .0, counted (c .before))
+entry-size-requires c κs = (c .before .before .before .before .before .pre .whole, counted (c .before))
 
 entry-flags-requires : tie.Need-entry-flags-requires
-entry-flags-requires c κs = (c .before .before .before .before .before .before .pre .0, counted (c .before .before))
+entry-flags-requires c κs = (c .before .before .before .before .before .before .pre .whole, counted (c .before .before))
 
 returns-2 : tie.Need-returns-2
 unfolding known unless

@@ -34,7 +34,7 @@ slot-row-requires c κs = search needs
 entry-name-requires : tie.Need-entry-name-requires
 entry-name-requires c κs =
     let a = c .before .before .before .before .args in (
-      c .before .before .before .before .pre .0,
+      c .before .before .before .before .pre .whole,
       omega (arith, row-counted (a .n) (a .t .now) (a .slot .0) (c .slot-row .result .0) (there c) (c .slot-row .ensures .0)),
     )
 

@@ -3,9 +3,9 @@ use mathlib.Core.Path.{sym}
 use native.Mathlib.Omega.{arith}
 use lib.ListN.{length}
 use borrow.Author.Tests.{le-leb}
-use Rattle.rules.specs.Table.{rows}
+use Rattle.rules.specs.Table.{entries, starts}
 use Rattle.rules.specs.Pointers.{places}
-use Rattle.places.specs.Added.{order-by-rows}
+use Rattle.rules.specs.Copies.{order-by}
 use Rattle.places.proofs.BootOrder.{order-fits}
 use borrow.Author.Needs.{needs}
 use Rattle.reading.proofs.order.has_room.Statement.{statement}
@@ -15,11 +15,12 @@ slot-total-requires : tie.Need-slot-total-requires
 slot-total-requires c κs = search needs
 
 returns : tie.Need-returns
+unfolding order-by starts
 returns c =
     let total = c .before .slot-total in
     let a = c .before .before .before .before .args in
-    let most = order-fits (rows (a .n) (a .t .now)) (places (a .p .now)) in
-    sym (le-leb (length (order-by-rows (a .n) (a .t .now) (a .p .now))) (a .room) (omega (arith, total .ensures .0)))
+    let most = order-fits (entries (a .t .now)) (places (a .p .now)) in
+    sym (le-leb (length (order-by (a .t .now) (a .p .now))) (a .room) (omega (arith, total .ensures .0)))
 
 order-length-requires : tie.Need-order-length-requires
 order-length-requires c κs = search needs

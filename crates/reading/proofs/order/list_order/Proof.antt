@@ -4,17 +4,35 @@ use borrow.Author.Tests.{leb-true}
 use Rattle.rules.specs.Answers.{unless, _>>=_}
 use Rattle.rules.specs.Readers.{order-in, row-after}
 use Rattle.walks.proofs.Joined.{failed, passed}
-use Rattle.places.specs.Added.{order-by-rows}
+use Rattle.rules.specs.Copies.{order-by}
+use Rattle.slots.specs.RowsOf.{HasRows}
+use Rattle.slots.proofs.RowsOf.{count-of-rows}
+use Rattle.places.specs.PlacesOf.{HasPlaces}
 use Rattle.reading.specs.Answers.{listed, count-of}
 use borrow.Author.Needs.{needs}
 use Rattle.reading.proofs.order.list_order.Statement.{statement}
 use Rattle.reading.proofs.order.list_order.Tie as tie
 
-last-slots-requires : tie.Need-last-slots-requires
-last-slots-requires c κs = search needs
+-- the rows and the places are those of the two blocks
+has : (c : tie.After-places-of)
+    → let a = c .before .before .before .before .before .args in
+    HasRows (a .t .now) (c .before .rows-of .result) × HasPlaces (a .p .now) (c .places-of .result)
+has c =
+    let rows = c .before .rows-of in
+    let start = c .before .before .before .before .before in
+    let count = count-of-rows (start .args .t .now) (rows .result) (rows .ensures) in (
+      record { table = rw count (start .pre .0); rows = rows .ensures },
+      record { block = start .pre .1; places = c .places-of .ensures },
+    )
+
+rows-of-requires : tie.Need-rows-of-requires
+rows-of-requires c κs = search needs
+
+places-of-requires : tie.Need-places-of-requires
+places-of-requires c κs = search needs
 
 has-room-requires : tie.Need-has-room-requires
-has-room-requires c κs = search needs
+has-room-requires c κs = has c
 
 returns : tie.Need-returns
 unfolding order-in unless listed count-of row-after _>>=_
@@ -25,13 +43,10 @@ returns c =
 write-order-requires : tie.Need-write-order-requires
 write-order-requires c κs =
     let test = c .before in
-    let last = test .before .before in
-    let start = last .before .before .before .before in
-    let a = start .args in
-    let room = passed (test .before .has-room .ensures) (test .if1 .left) in (
-      ((start .pre .0, last .last-slots .ensures), start .pre .1),
-      leb-true (length (order-by-rows (a .n) (a .t .now) (a .p .now))) (length (a .row .now)) room,
-    )
+    let places = test .before .before in
+    let a = places .before .before .before .before .before .args in
+    let room = passed (test .before .has-room .ensures) (test .if1 .left) in
+    (has places, leb-true (length (order-by (a .t .now) (a .p .now))) (length (a .row .now)) room)
 
 same-length : tie.Need-same-length
 same-length c = search needs
@@ -48,7 +63,8 @@ pub list-order-spec : {M : Type 1} → statement M
 list-order-spec =
     tie.close
     (tie.spec
-    last-slots-requires
+    rows-of-requires
+    places-of-requires
     has-room-requires
     returns
     write-order-requires

@@ -1,18 +1,25 @@
--- `last_word_start` answers an index within the text. Assumes nothing.
+-- `last_word_start`: no space stands from the index on. Assumes nothing.
+use mathlib.Core.Path.{_≡_, refl}
+use mathlib.Core.List.{[]}
+use native.Mathlib.Omega.{arith}
+use lib.Seq.{drop-length}
+use Rattle.script.specs.Words.{later-words}
+use Rattle.script.proofs.WordsOfLine.{later-goes}
 use Prim.Native.Nat.{_≤_}
-use lib.ListN.{length}
+use lib.ListN.{length, drop}
 use borrow.Author.Needs.{needs}
 use Rattle.script.proofs.words.last_word_start.Statement.{statement}
 use Rattle.script.proofs.words.last_word_start.Tie as tie
 
 abbrev Inv-loop : tie.InvT-loop
-Inv-loop text i₀ i = i ≤ length text
+Inv-loop line i₀ i = (i ≤ length line) × (later-words (drop i line) ≡ [])
 
 abbrev μ-loop : tie.MeasureT-loop
-μ-loop text i₀ i = i
+μ-loop line i₀ i = i
 
 loop-holds : tie.Need-loop-holds Inv-loop μ-loop
-loop-holds c = search needs
+unfolding later-words
+loop-holds c = (omega arith, rw (drop-length (c .args .line .now)))
 
 sub-if1 : tie.Need-sub-if1 Inv-loop μ-loop
 sub-if1 c = search needs
@@ -21,7 +28,13 @@ shared-slice-read-if1 : tie.Need-shared-slice-read-if1 Inv-loop μ-loop
 shared-slice-read-if1 c = search needs
 
 returns : tie.Need-returns Inv-loop μ-loop
-returns c = search needs
+returns c =
+    let loop = c .before .before .before in
+    record {
+      inside = omega arith;
+      no-space = loop .loop .inv .1;
+      after-space = λ _. c .if1 .taken;
+    }
 
 sub-i : tie.Need-sub-i Inv-loop μ-loop
 sub-i c = search needs
@@ -30,10 +43,19 @@ loop-less : tie.Need-loop-less Inv-loop μ-loop
 loop-less c = search needs
 
 loop-again : tie.Need-loop-again Inv-loop μ-loop
-loop-again c = search needs
+loop-again c =
+    let loop = c .before .before .before in
+    let line = loop .before .args .line .now in
+    (omega arith, later-goes line (loop .loop .i) (omega arith) (omega arith) (c .if1 .left) (loop .loop .inv .1))
 
 returns-2 : tie.Need-returns-2 Inv-loop μ-loop
-returns-2 c = search needs
+returns-2 c =
+    let loop = c .before in
+    record {
+      inside = omega arith;
+      no-space = loop .loop .inv .1;
+      after-space = λ h. absurd (omega arith);
+    }
 
 pub last-word-start-spec : {M : Type 1} → statement M
 last-word-start-spec =

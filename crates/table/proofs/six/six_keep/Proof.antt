@@ -16,7 +16,7 @@ counted c =
     let six = c .before .before .find-six .result in
     let start = c .before .before .before .before in
     let named = passed (c .before .six-are-named .ensures) (c .if1 .left) in
-    below-more (start .args .n) six (start .pre .0 .1) (all-below (start .args .n) six named)
+    below-more (start .args .n) six (start .pre .0 .few) (all-below (start .args .n) six named)
 
 find-six-requires : tie.Need-find-six-requires
 find-six-requires c κs = search needs
@@ -33,15 +33,15 @@ returns c =
     sym (not-all-named (a .n) (a .table .now) (found .find-six .ensures) s missing)
 
 boot-info-is-at-0-requires : tie.Need-boot-info-is-at-0-requires
-boot-info-is-at-0-requires c κs = (c .before .before .before .before .pre .0 .0, counted c)
+boot-info-is-at-0-requires c κs = (c .before .before .before .before .pre .0 .whole, counted c)
 
 tables-are-as-told-requires : tie.Need-tables-are-as-told-requires
-tables-are-as-told-requires c κs = (c .before .before .before .before .before .pre .0 .0, counted (c .before))
+tables-are-as-told-requires c κs = (c .before .before .before .before .before .pre .0 .whole, counted (c .before))
 
 blocks-are-on-granules-requires : tie.Need-blocks-are-on-granules-requires
 blocks-are-on-granules-requires c κs =
     let start = c .before .before .before .before .before .before in
-    ((start .pre .0 .0, counted (c .before .before)), start .pre .1)
+    ((start .pre .0 .whole, counted (c .before .before)), start .pre .1)
 
 returns-2 : tie.Need-returns-2
 returns-2 c =

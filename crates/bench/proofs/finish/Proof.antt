@@ -1,0 +1,31 @@
+-- `finish` does all listed steps of the command: its run is never refused. Assumes nothing.
+use mathlib.Core.Path.{_∙_}
+use Rattle.commands.proofs.StartLists.{result-begins}
+use Rattle.book.specs.Kept.{setting-of, command-of}
+use Rattle.bench.proofs.Finishing.{names-of-bytes, finishes}
+use borrow.Author.Needs.{needs}
+use Rattle.bench.proofs.finish.Statement.{statement}
+use Rattle.bench.proofs.finish.Tie as tie
+
+begin-requires : tie.Need-begin-requires
+begin-requires c κs = search needs
+
+run-begun-requires : tie.Need-run-begun-requires
+run-begun-requires c κs = search needs
+
+same-length : tie.Need-same-length
+same-length c = search needs
+
+returns : tie.Need-returns
+returns c =
+    let a = c .before .before .before .before .before .before .before .args in
+    let s = setting-of (a .s) in
+    let named = command-of (a .command) in
+    let begun = c .before .before .before .begin in
+    let (done, left) = finishes s (a .image .now) named (begun .result)
+    (λ i. c .before .before .before .before .before .before .slice-known .given i .fits) (names-of-bytes (a .command))
+    (result-begins s (a .image .now) named (begun .result) (begun .ensures)) in
+    (c .before .before .run-begun .ensures .0 ∙ done, c .before .before .run-begun .ensures .1 ∙ left)
+
+pub finish-spec : {M : Type 1} → statement M
+finish-spec = tie.close (tie.spec begin-requires run-begun-requires same-length returns)

@@ -1,0 +1,47 @@
+-- `run_job` says and leaves what one run of all steps does. Assumes nothing.
+use Rattle.bench.specs.Finished.{told, done-by, left-by}
+use Rattle.bench.proofs.Finishing.{ran-all}
+use borrow.Author.Needs.{needs}
+use Rattle.jobs.specs.Jobs.{ran-by}
+use Rattle.bench.proofs.run_job.Statement.{statement}
+use Rattle.bench.proofs.run_job.Tie as tie
+
+returns : tie.Need-returns
+unfolding done-by left-by
+returns c = (rw (c .if1 .taken), rw (c .if1 .taken))
+
+run-requires : tie.Need-run-requires
+run-requires c κs = search needs
+
+enum-known-did : tie.Need-enum-known-did
+enum-known-did c = search needs
+
+enum-known-did-2 : tie.Need-enum-known-did-2
+enum-known-did-2 c = search needs
+
+same-length : tie.Need-same-length
+same-length c = search needs
+
+returns-2 : tie.Need-returns-2
+unfolding told ran-by
+returns-2 c = ran-all (c .before .before .before .before .before .before .before .before .before .args .left) _ _ _ (c .before .before .before .before .before .run .result) _ (c .before .before .before .before .before .run .ensures) (c .before .before .before .before .before .before .before .if1 .left) (c .before .did .given .1)
+
+same-length-2 : tie.Need-same-length-2
+same-length-2 c = search needs
+
+returns-3 : tie.Need-returns-3
+unfolding told ran-by
+returns-3 c = ran-all (c .before .before .before .before .before .before .before .before .before .args .left) _ _ _ (c .before .before .before .before .before .run .result) _ (c .before .before .before .before .before .run .ensures) (c .before .before .before .before .before .before .before .if1 .left) (c .before .did2 .given .1)
+
+pub run-job-spec : {M : Type 1} → statement M
+run-job-spec =
+    tie.close
+    (tie.spec
+    returns
+    run-requires
+    enum-known-did
+    enum-known-did-2
+    same-length
+    returns-2
+    same-length-2
+    returns-3)

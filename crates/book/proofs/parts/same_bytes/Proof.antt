@@ -1,0 +1,14 @@
+-- `same_bytes` is the test of the definitions. Assumes nothing.
+use Rattle.book.proofs.Blocks.{same-by}
+use borrow.Author.Needs.{needs}
+use Rattle.book.proofs.parts.same_bytes.Statement.{statement}
+use Rattle.book.proofs.parts.same_bytes.Tie as tie
+
+same-requires : tie.Need-same-requires
+same-requires c κs = search needs
+
+returns : tie.Need-returns
+returns c = same-by _ _ _ (c .same .ensures)
+
+pub same-bytes-spec : {M : Type 1} → statement M
+same-bytes-spec = tie.close (tie.spec same-requires returns)

@@ -1,0 +1,25 @@
+-- `reads_as` compares what was given; a refusal is no reading. Assumes nothing.
+use Rattle.book.specs.Kept.{answer-of, read-as, same-answer}
+use borrow.Author.Needs.{needs}
+use Rattle.book.proofs.reads_as.Statement.{statement}
+use Rattle.book.proofs.reads_as.Tie as tie
+
+enum-told : tie.Need-enum-told
+enum-told c = search needs
+
+enum-told-2 : tie.Need-enum-told-2
+enum-told-2 c = search needs
+
+same-book-requires : tie.Need-same-book-requires
+same-book-requires c κs = search needs
+
+returns : tie.Need-returns
+unfolding answer-of read-as same-answer
+returns c = rw (c .enum-told .given .1)
+
+returns-2 : tie.Need-returns-2
+unfolding answer-of read-as same-answer
+returns-2 c = rw (c .before .enum-told2 .given .1) (c .same-book .ensures)
+
+pub reads-as-spec : {M : Type 1} → statement M
+reads-as-spec = tie.close (tie.spec enum-told enum-told-2 same-book-requires returns returns-2)

@@ -1,0 +1,39 @@
+-- `carry_out_rename` carries rename out with the functions for C. Assumes nothing.
+use borrow.Author.Needs.{needs}
+use Rattle.rules.specs.Numbers.{setting}
+use Rattle.rules.specs.Commands.{rename}
+use Rattle.rules.specs.Book.{name-bytes}
+use Rattle.linked.specs.Ran.{lent}
+use Rattle.carried_for_c.proofs.Carrying.{carried-by}
+use Rattle.carried_for_c.proofs.carry_out_rename.Statement.{statement}
+use Rattle.carried_for_c.proofs.carry_out_rename.Tie as tie
+
+delunkpawi-rename-requires : tie.Need-delunkpawi-rename-requires
+delunkpawi-rename-requires c κs = search needs
+
+run-if-started-requires : tie.Need-run-if-started-requires
+run-if-started-requires c κs = search needs
+
+same-length : tie.Need-same-length
+same-length c = search needs
+
+same-length-2 : tie.Need-same-length-2
+same-length-2 c = search needs
+
+returns : tie.Need-returns
+returns c =
+    let at-runs = c .before .before .before .before in
+    let runs = at-runs .run-if-started in
+    let at-start = at-runs .before .before .before .before .before .before in
+    let begun = at-start .delunkpawi-rename in
+    let known = at-start .before .before .before .before .before .slice-known .given in
+    let start = at-start .before .before .before .before .before .before in
+    let a = start .args in
+    carried-by (setting (a .granule) (a .spt0) (a .spt1)) (rename (a .slot) (a .name .now)) (begun .result)
+    (lent (a .job .now) (a .image .now) (a .done .now)) (begun .last .1 .1 .1 .1 .1 .1 .0) (a .first) (a .second)
+    (lent (runs .last .1 .0) (runs .last .1 .1 .0) (runs .last .1 .1 .1 .1 .1 .0))
+    (λ i. known i .fits) (unfold name-bytes in λ i. at-start .before .before .before .before .shared-slice-known .given i .fits) (start .pre) (begun .ensures) (runs .ensures)
+
+pub carry-out-rename-spec : {M : Type 1} → statement M
+carry-out-rename-spec =
+    tie.close (tie.spec delunkpawi-rename-requires run-if-started-requires same-length same-length-2 returns)

@@ -1,0 +1,76 @@
+-- The jobs of enable, disable and rename, case by case. Assumes nothing.
+use mathlib.Core.Path.{_≡_}
+use mathlib.Core.Bool.{true, false, cond}
+use mathlib.Core.List.{List, [], _∷_}
+use Prim.Native.Nat.{ℕ, _≤_, _<_}
+use borrow.Author.Tests.{lt-ltb, le-ltb}
+use lib.ListN.{getD}
+use Rattle.rules.specs.Lists.{without}
+use Rattle.rules.specs.Bytes.{bytes-of, up-to-zero}
+use Rattle.rules.specs.Table.{entry-count, entries, rows, has-name, no-entry}
+use Rattle.rules.specs.Pointers.{place-offset, place-count, places, order}
+use Rattle.rules.specs.Readers.{slot-row, slot-entry}
+use Rattle.rules.specs.Commands.{filled, pointers-of, free-place, is-first, giving, half-cleared-names, put-name, has-already}
+use Rattle.walks.specs.Entries.{entry-at}
+use Rattle.walks.proofs.Entries.{entry-of-rows}
+use Rattle.blocks.specs.Made.{no-steps, pair-rewritten, places-noted, places-written}
+use Rattle.blocks.specs.declared.Noted.{Noted}
+use Rattle.commands.specs.JobFor.{reorder-job, in-places-job, enable-job, disable-job, rename-job}
+
+module _ (len g c0 c1 : ℕ) (starts p : List ℕ) (k : ℕ) where
+  -- ---- enable
+
+  pub enable-none : is-first k (order starts (places p)) ≡ true → no-steps len g ≡ enable-job len g c0 c1 starts p k
+  unfolding enable-job
+  enable-none t = rw t
+
+  module _ (f : is-first k (order starts (places p)) ≡ false) (u a : ℕ) (eu : u ≡ free-place starts (places p))
+      (ea : a ≡ getD starts k 0) where
+    pub enable-place : (offset : ℕ) (found : Noted) (w : List ℕ)
+        → u < place-count p
+        → offset ≡ place-offset p
+        → found ≡ places-noted (u ∷ [])
+        → w ≡ bytes-of 8 a
+        → places-written len g offset c1 c0 found w ≡ enable-job len g c0 c1 starts p k
+    unfolding enable-job in-places-job
+    enable-place offset found w free eo ef ew = rw (f, ← eu, lt-ltb u (place-count p) free, ← ea, eo, ef, ew)
+
+    pub enable-rewrite : (b : List ℕ)
+        → place-count p ≤ u
+        → b ≡ filled p (pointers-of starts (k ∷ without k (order starts (places p))))
+        → pair-rewritten len g c0 c1 b ≡ enable-job len g c0 c1 starts p k
+    unfolding enable-job reorder-job
+    enable-rewrite b full eb = rw (f, ← eu, le-ltb u (place-count p) full, eb)
+
+  -- ---- disable
+
+  module _ (a : ℕ) (ea : a ≡ getD starts k 0) where
+    pub disable-rewrite : (b : List ℕ)
+        → half-cleared-names starts a ≡ true
+        → b ≡ filled p (pointers-of starts (without k (order starts (places p))))
+        → pair-rewritten len g c0 c1 b ≡ disable-job len g c0 c1 starts p k
+    unfolding disable-job reorder-job
+    disable-rewrite b t eb = rw (← ea, t, eb)
+
+    pub disable-in-place : (offset : ℕ) (found : Noted) (w : List ℕ)
+        → half-cleared-names starts a ≡ false
+        → offset ≡ place-offset p
+        → found ≡ places-noted (giving starts k 0 (places p))
+        → w ≡ bytes-of 8 0
+        → places-written len g offset c1 c0 found w ≡ disable-job len g c0 c1 starts p k
+    unfolding disable-job in-places-job
+    disable-in-place offset found w f eo ef ew = rw (← ea, f, eo, ef, ew)
+
+-- ---- rename
+
+pub rename-by-row : (len g t0 t1 k row n : ℕ) (t name : List ℕ)
+    → n ≡ entry-count t
+    → row ≡ slot-row (rows n t) k
+    → row < n
+    → up-to-zero name ≡ name
+    → cond (has-name (up-to-zero name) (entry-at t row)) (no-steps len g)
+    (pair-rewritten len g t0 t1 (put-name t row name))
+    ≡ rename-job len g t0 t1 t k name
+unfolding rename-job has-already slot-entry entries
+rename-by-row len g t0 t1 k row n t name en er within whole =
+    rw (whole, ← entry-of-rows n row t no-entry within, ← en, ← er)

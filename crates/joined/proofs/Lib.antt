@@ -1,0 +1,4 @@
+pub mod Runs
+pub mod Items
+pub mod ReadBack
+pub mod Theorem

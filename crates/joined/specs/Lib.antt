@@ -1,0 +1,4 @@
+pub mod Runs
+pub mod Items
+pub mod ReadOut
+pub mod Claim

@@ -1,0 +1,4 @@
+pub mod RefusalNumbers
+pub mod ByValue
+pub mod Readers
+pub mod Theorem

@@ -1,0 +1,27 @@
+-- The readers for C tell the book's reading. Assumes nothing.
+use mathlib.Core.Path.{_≡_, refl, sym, ap, _∙_, subst}
+use mathlib.Core.List.{List}
+use Prim.Native.Nat.{ℕ, _≤_}
+use lib.ListN.{length}
+use Rattle.rules.specs.Answers.{Answer, given, _>>=_}
+use Rattle.rules.specs.Numbers.{Setting}
+use Rattle.rules.specs.Copies.{view}
+use Rattle.rules.specs.Readers.{order-list, slot-count, slot-facts, slot-name, table-of, table-part}
+use Rattle.rules.specs.Book.{Reading, read-by, reading}
+use Rattle.rules.proofs.Tests.{bind-given, given-inj}
+use Rattle.linked.specs.Answered.{Written}
+use Rattle.joined.proofs.ReadBack.{order-there}
+use Rattle.joined_for_c.specs.Claim.{AnswersForC}
+
+module _ (s : Setting) (img : List ℕ) (r : Reading) where
+  pub readers-for-c-answer : reading s img ≡ given r → AnswersForC s img r
+  unfolding reading read-by slot-count slot-facts slot-name table-part table-of _>>=_
+  readers-for-c-answer e =
+      let (v, ev, q) = bind-given (view s img) _ r e in
+      let table = ap (λ (x : Reading). x .table) (given-inj (read-by img v) r q) in
+      record {
+        order = λ row row′ number count count′ fits written. rw (order-there s img r (length row) e fits) at written;
+        slot-total = rw (ev, table);
+        slot-known = λ k. rw (ev, table);
+        slot-named = λ k. rw (ev, table);
+      }

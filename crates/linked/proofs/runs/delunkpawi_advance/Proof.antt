@@ -1,0 +1,75 @@
+-- `delunkpawi_advance` counts steps of the job that bytes hold. Assumes nothing.
+use borrow.Author.Needs.{needs}
+use Rattle.linked.proofs.Held.{holds-none, holds-one, job-held}
+use Rattle.linked.proofs.AfterCount.{count-malformed, count-refused, count-told}
+use Rattle.linked.proofs.runs.delunkpawi_advance.Statement.{statement}
+use Rattle.linked.proofs.runs.delunkpawi_advance.Tie as tie
+
+is-job-requires : tie.Need-is-job-requires
+is-job-requires c κs = search needs
+
+same-length : tie.Need-same-length
+same-length c = search needs
+
+returns : tie.Need-returns
+returns c =
+    let t = c .before .is-job in
+    let a = c .before .before .before .before .args in
+    count-malformed (a .job .now) (a .steps) (a .count .now)
+    (holds-none (a .job .now) (t .result) (t .ensures) (c .if1 .taken))
+
+advance-requires : tie.Need-advance-requires
+advance-requires c κs =
+    let at-if1 = c .before in
+    let t = at-if1 .before .is-job in
+    let a = at-if1 .before .before .before .before .args in
+    holds-one (a .job .now) (t .result) (t .ensures) (at-if1 .if1 .left)
+
+enum-known-did : tie.Need-enum-known-did
+enum-known-did c = search needs
+
+enum-known-did-2 : tie.Need-enum-known-did-2
+enum-known-did-2 c = search needs
+
+same-length-2 : tie.Need-same-length-2
+same-length-2 c = search needs
+
+returns-2 : tie.Need-returns-2
+returns-2 c =
+    let at-did = c .before in
+    let at-advance = at-did .before .before .before .before in
+    let at-if1 = at-advance .before .before in
+    let t = at-if1 .before .is-job in
+    let a = at-if1 .before .before .before .before .args in
+    count-refused (a .job .now) (at-advance .advance .last .0) (a .steps) (at-did .did .given .0 .0) (a .count .now)
+    (job-held (a .job .now) (t .result) (t .ensures) (at-if1 .if1 .left)) (at-advance .advance .result)
+    (at-advance .advance .ensures) (at-did .did .given .1)
+
+same-length-3 : tie.Need-same-length-3
+same-length-3 c = search needs
+
+returns-3 : tie.Need-returns-3
+returns-3 c =
+    let at-did = c .before in
+    let at-advance = at-did .before .before .before .before in
+    let at-if1 = at-advance .before .before in
+    let t = at-if1 .before .is-job in
+    let a = at-if1 .before .before .before .before .args in
+    count-told (a .job .now) (at-advance .advance .last .0) (a .steps) (at-did .did2 .given .0 .0) (a .count .now)
+    (job-held (a .job .now) (t .result) (t .ensures) (at-if1 .if1 .left)) (at-advance .advance .result)
+    (at-advance .advance .ensures) (at-did .did2 .given .1)
+
+pub delunkpawi-advance-spec : {M : Type 1} → statement M
+delunkpawi-advance-spec =
+    tie.close
+    (tie.spec
+    is-job-requires
+    same-length
+    returns
+    advance-requires
+    enum-known-did
+    enum-known-did-2
+    same-length-2
+    returns-2
+    same-length-3
+    returns-3)

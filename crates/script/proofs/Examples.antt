@@ -1,0 +1,63 @@
+-- Lines that a reader can check by hand: what each does. Assumes nothing.
+use mathlib.Core.Path.{_≡_, refl}
+use mathlib.Core.List.{List, [], _∷_, map}
+use Prim.Native.String.{String}
+use Rattle.rules.specs.Lists.{same, all}
+use Rattle.script.specs.Text.{ascii}
+use Rattle.script.specs.Words.{before, later-words}
+use Rattle.script.specs.Hex.{hex-value, is-bytes}
+use Rattle.script.specs.Numbers.{digit, number-from, number, numbers, numbers-before-bytes}
+use Rattle.script.specs.Lines.{
+  takes,
+  takes-slot,
+  by-forms,
+  change-forms,
+  question-forms,
+  command-forms,
+  steps-forms,
+  said,
+  line-of,
+}
+use Rattle.script.specs.declared.Line.{Line}
+use Rattle.script.specs.declared.Line.the-variants.{Nothing, Change, Question, Command, Steps, Error}
+use Rattle.script.specs.declared.Change.the-variants.{Image, Put}
+use Rattle.script.specs.declared.Question.the-variants.{Order}
+use Rattle.script.specs.declared.Command.the-variants.{Rename, RenameToNothing}
+use Rattle.script.specs.declared.Steps.the-variants.{Cut}
+
+abbrev pub lines : List String
+lines =
+    "# any"
+    ∷ "order"
+    ∷ "order 508"
+    ∷ "order 509"
+    ∷ "image 65536 0255"
+    ∷ "put 16 4a4b"
+    ∷ "put 16 4a4"
+    ∷ "rename 3 4a4b"
+    ∷ "rename 3"
+    ∷ "rename 4294967296"
+    ∷ "cut 5"
+    ∷ "cut  5"
+    ∷ "cut 5 100"
+    ∷ "cut 5 100 "
+    ∷ []
+
+pub lines-do : map (λ (line : String). line-of (ascii line)) lines
+    ≡ Nothing
+    ∷ Question (Order 127)
+    ∷ Question (Order 508)
+    ∷ Error
+    ∷ Change (Image 65536 255)
+    ∷ Change (Put 16)
+    ∷ Error
+    ∷ Command (Rename (record { 0 = 3 }))
+    ∷ Command (RenameToNothing (record { 0 = 3 }))
+    ∷ Error
+    ∷ Steps (Cut 5 0)
+    ∷ Error
+    ∷ Steps (Cut 5 100)
+    ∷ Error
+    ∷ []
+unfolding same all before later-words hex-value is-bytes digit number-from number numbers numbers-before-bytes takes takes-slot by-forms change-forms question-forms command-forms steps-forms said line-of
+lines-do = refl

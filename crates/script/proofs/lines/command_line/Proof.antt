@@ -1,0 +1,111 @@
+-- `command_line` follows the forms from the last to the first. Assumes nothing.
+use Rattle.script.specs.Text.{ascii}
+use Rattle.script.specs.Lines.{by-forms, command-forms}
+use Rattle.script.specs.declared.Line.the-variants.{Command}
+use Rattle.script.specs.declared.Command.the-variants.{Enable, Disable, Rename, RenameToNothing}
+use Rattle.script.proofs.Forms.{slot-kept}
+use borrow.Author.Needs.{needs}
+use Rattle.script.proofs.lines.command_line.Statement.{statement}
+use Rattle.script.proofs.lines.command_line.Tie as tie
+
+slot-of-requires : tie.Need-slot-of-requires
+slot-of-requires c κs = search needs
+
+slot-of-requires-2 : tie.Need-slot-of-requires-2
+slot-of-requires-2 c κs = search needs
+
+slice-aggregate-takes-slot : tie.Need-slice-aggregate-takes-slot
+slice-aggregate-takes-slot c = search needs
+
+takes-slot-requires : tie.Need-takes-slot-requires
+takes-slot-requires c κs = search needs
+
+form-requires : tie.Need-form-requires
+form-requires c κs = search needs
+
+slice-aggregate-takes-slot-2 : tie.Need-slice-aggregate-takes-slot-2
+slice-aggregate-takes-slot-2 c = search needs
+
+takes-slot-requires-2 : tie.Need-takes-slot-requires-2
+takes-slot-requires-2 c κs = search needs
+
+form-requires-2 : tie.Need-form-requires-2
+form-requires-2 c κs = search needs
+
+slice-aggregate-takes-slot-3 : tie.Need-slice-aggregate-takes-slot-3
+slice-aggregate-takes-slot-3 c = search needs
+
+takes-slot-requires-3 : tie.Need-takes-slot-requires-3
+takes-slot-requires-3 c κs = search needs
+
+form-requires-3 : tie.Need-form-requires-3
+form-requires-3 c κs = search needs
+
+slice-aggregate-takes-slot-4 : tie.Need-slice-aggregate-takes-slot-4
+slice-aggregate-takes-slot-4 c = search needs
+
+takes-slot-requires-4 : tie.Need-takes-slot-requires-4
+takes-slot-requires-4 c κs = search needs
+
+form-requires-4 : tie.Need-form-requires-4
+form-requires-4 c κs = search needs
+
+slice-aggregate-takes : tie.Need-slice-aggregate-takes
+slice-aggregate-takes c = search needs
+
+takes-requires : tie.Need-takes-requires
+takes-requires c κs = search needs
+
+form-requires-5 : tie.Need-form-requires-5
+form-requires-5 c κs = search needs
+
+returns : tie.Need-returns
+unfolding by-forms command-forms
+returns c =
+    let c4 = c .before .before .before in
+    let c3 = c4 .before .before .before in
+    let c2 = c3 .before .before .before in
+    let c1 = c2 .before .before .before in
+    let named = c1 .before .before .before in
+    let slot = named .before in
+    let a = slot .before .before .args in
+    let kept = slot-kept (a .verb .now) in
+    rw (
+      c .form5 .ensures,
+      c .before .takes .ensures,
+      c4 .form4 .ensures,
+      c4 .before .takes-slot4 .ensures,
+      kept (ascii "rename") (a .row) (slot .slot-of .result) (λ s. Command (RenameToNothing s)) (c3 .form3 .result) (slot .slot-of .ensures),
+      c3 .form3 .ensures,
+      c3 .before .takes-slot3 .ensures,
+      kept (ascii "rename") (a .hexed) (named .slot-of2 .result) (λ s. Command (Rename s)) (c2 .form2 .result) (named .slot-of2 .ensures),
+      c2 .form2 .ensures,
+      c2 .before .takes-slot2 .ensures,
+      kept (ascii "disable") (a .row) (slot .slot-of .result) (λ s. Command (Disable s)) (c1 .form .result) (slot .slot-of .ensures),
+      c1 .form .ensures,
+      c1 .before .takes-slot .ensures,
+      kept (ascii "enable") (a .row) (slot .slot-of .result) (λ s. Command (Enable s)) (a .otherwise) (slot .slot-of .ensures),
+    )
+
+pub command-line-spec : {M : Type 1} → statement M
+command-line-spec =
+    tie.close
+    (tie.spec
+    slot-of-requires
+    slot-of-requires-2
+    slice-aggregate-takes-slot
+    takes-slot-requires
+    form-requires
+    slice-aggregate-takes-slot-2
+    takes-slot-requires-2
+    form-requires-2
+    slice-aggregate-takes-slot-3
+    takes-slot-requires-3
+    form-requires-3
+    slice-aggregate-takes-slot-4
+    takes-slot-requires-4
+    form-requires-4
+    slice-aggregate-takes
+    takes-requires
+    form-requires-5
+    returns)

@@ -1,0 +1,15 @@
+-- `takes_slot` is the test of the verb and of one number. Assumes nothing.
+use Rattle.script.specs.Lines.{takes-slot}
+use borrow.Author.Needs.{needs}
+use Rattle.script.proofs.lines.takes_slot.Statement.{statement}
+use Rattle.script.proofs.lines.takes_slot.Tie as tie
+
+takes-requires : tie.Need-takes-requires
+takes-requires c κs = search needs
+
+returns : tie.Need-returns
+unfolding takes-slot
+returns c = rw (c .before .takes .ensures)
+
+pub takes-slot-spec : {M : Type 1} → statement M
+takes-slot-spec = tie.close (tie.spec takes-requires returns)
