@@ -25,6 +25,8 @@
  *   13  the lent row is shorter than the boot order
  *   90  the job's buffer has another length than DELUNKPAWI_JOB_SIZE, or holds no job
  *   91  the bytes lent for a name are too few
+ *   92  no such entry
+ *   93  no such place
  *
  * docs/REFUSALS.md says what to do about each.
  */
@@ -62,6 +64,37 @@ uint8_t delunkpawi_slot_facts(const uint8_t *image, size_t image_length, size_t 
 /* The name of a slot into the front of the lent bytes, with no zero at its end, and its length. */
 uint8_t delunkpawi_slot_name(const uint8_t *image, size_t image_length, size_t granule, size_t spt0, size_t spt1,
                              uint32_t slot, uint8_t *name, size_t name_length, size_t *count);
+
+/* ---- Looking into a flash: more than its slots and their order. */
+
+/* Where the table read puts the two copies of the pointer block, and where the copies stand that are read: `table` is
+ * spt0 or spt1, `pointers` is cpb0 or cpb1. */
+uint8_t delunkpawi_view(const uint8_t *image, size_t image_length, size_t granule, size_t spt0, size_t spt1,
+                        size_t *cpb0, size_t *cpb1, size_t *table, size_t *pointers);
+
+/* For each of the four blocks 1 if it stands, else 0; for each pair 1 if it agrees (both copies stand and are equal),
+ * else 0. */
+uint8_t delunkpawi_copies(const uint8_t *image, size_t image_length, size_t granule, size_t spt0, size_t spt1,
+                          uint8_t *spt0_stands, uint8_t *spt1_stands, uint8_t *cpb0_stands, uint8_t *cpb1_stands,
+                          uint8_t *tables_agree, uint8_t *pointers_agree);
+
+/* How many entries the table read has, slots or not. They are numbered from 0. */
+uint8_t delunkpawi_entry_count(const uint8_t *image, size_t image_length, size_t granule, size_t spt0, size_t spt1,
+                               size_t *count);
+
+/* The name of an entry into the front of the lent bytes, with no zero at its end, and its length; where the entry
+ * starts, how long it is, and its flags. */
+uint8_t delunkpawi_entry(const uint8_t *image, size_t image_length, size_t granule, size_t spt0, size_t spt1,
+                         size_t entry, uint8_t *name, size_t name_length, size_t *name_count, uint64_t *start,
+                         uint64_t *size, uint64_t *flags);
+
+/* How many places the pointer block read has. They are numbered from 0; the last in use comes first in the order. */
+uint8_t delunkpawi_place_count(const uint8_t *image, size_t image_length, size_t granule, size_t spt0, size_t spt1,
+                               size_t *count);
+
+/* What a place holds: kind 0 for erased, 1 for live, 2 for dead; the slot of a live place, else 0; and its value. */
+uint8_t delunkpawi_place(const uint8_t *image, size_t image_length, size_t granule, size_t spt0, size_t spt1,
+                         size_t place, uint8_t *kind, uint32_t *slot, uint64_t *value);
 
 /* ---- Starting a job. The image is only read. The job, its steps not yet done, is left in the lent buffer; bytes of it
    that the job does not use stay as they were. */

@@ -6,3 +6,4 @@ pub mod AfterCount
 pub mod MadeTyped
 pub mod StartTyped
 pub mod Beginning
+pub mod NamedEntries

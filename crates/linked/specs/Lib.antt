@@ -3,3 +3,4 @@ pub mod StepNumbers
 pub mod Begun
 pub mod Ran
 pub mod Counted
+pub mod Inspected

@@ -42,6 +42,44 @@ pub struct Facts {
     pub flags: u64,
 }
 
+/// Where the two copies of the pointer block are, and where the copies are that are read.
+#[derive(Clone, Copy, Debug, PartialEq, Eq)]
+pub struct View {
+    pub cpb0: usize,
+    pub cpb1: usize,
+    pub table: usize,
+    pub pointers: usize,
+}
+
+/// For each of the four blocks whether it stands, for each pair whether it agrees.
+#[derive(Clone, Copy, Debug, PartialEq, Eq)]
+pub struct Condition {
+    pub spt0: bool,
+    pub spt1: bool,
+    pub cpb0: bool,
+    pub cpb1: bool,
+    pub tables: bool,
+    pub pointers: bool,
+}
+
+/// An entry of the table, slot or not.
+#[derive(Clone, Debug, PartialEq, Eq)]
+pub struct Entry {
+    pub name: Vec<u8>,
+    pub start: u64,
+    pub size: u64,
+    pub flags: u64,
+}
+
+/// What a place of the pointer block holds, beside its value.
+#[derive(Clone, Copy, Debug, PartialEq, Eq)]
+pub enum Place {
+    Erased,
+    /// It points at the start of this slot.
+    Live(u32),
+    Dead,
+}
+
 /// The step that comes next.
 #[derive(Clone, Copy, Debug, PartialEq, Eq)]
 pub enum Step {
@@ -153,6 +191,134 @@ impl Setting {
             )
         };
         answer(number, count)
+    }
+
+    /// Where the pointer blocks are, and which copies are read.
+    pub fn view(&self, image: &[u8]) -> Result<View, Refused> {
+        let mut view = View { cpb0: 0, cpb1: 0, table: 0, pointers: 0 };
+        let number = unsafe {
+            raw::delunkpawi_view(
+                image.as_ptr(),
+                image.len(),
+                self.granule,
+                self.spt0,
+                self.spt1,
+                &mut view.cpb0,
+                &mut view.cpb1,
+                &mut view.table,
+                &mut view.pointers,
+            )
+        };
+        answer(number, view)
+    }
+
+    /// Which copies stand, and which pairs agree.
+    pub fn condition(&self, image: &[u8]) -> Result<Condition, Refused> {
+        let [mut spt0, mut spt1, mut cpb0, mut cpb1, mut tables, mut pointers] = [0; 6];
+        let number = unsafe {
+            raw::delunkpawi_copies(
+                image.as_ptr(),
+                image.len(),
+                self.granule,
+                self.spt0,
+                self.spt1,
+                &mut spt0,
+                &mut spt1,
+                &mut cpb0,
+                &mut cpb1,
+                &mut tables,
+                &mut pointers,
+            )
+        };
+        let condition = Condition {
+            spt0: spt0 == 1,
+            spt1: spt1 == 1,
+            cpb0: cpb0 == 1,
+            cpb1: cpb1 == 1,
+            tables: tables == 1,
+            pointers: pointers == 1,
+        };
+        answer(number, condition)
+    }
+
+    /// How many entries the table read has.
+    pub fn entry_count(&self, image: &[u8]) -> Result<usize, Refused> {
+        let mut count = 0;
+        let number = unsafe {
+            raw::delunkpawi_entry_count(
+                image.as_ptr(),
+                image.len(),
+                self.granule,
+                self.spt0,
+                self.spt1,
+                &mut count,
+            )
+        };
+        answer(number, count)
+    }
+
+    /// An entry of the table read: its name up to its zero, its start, length and flags.
+    pub fn entry(&self, image: &[u8], entry: usize) -> Result<Entry, Refused> {
+        let mut found = Entry { name: vec![0; NAME_MAX], start: 0, size: 0, flags: 0 };
+        let mut count = 0;
+        let number = unsafe {
+            raw::delunkpawi_entry(
+                image.as_ptr(),
+                image.len(),
+                self.granule,
+                self.spt0,
+                self.spt1,
+                entry,
+                found.name.as_mut_ptr(),
+                found.name.len(),
+                &mut count,
+                &mut found.start,
+                &mut found.size,
+                &mut found.flags,
+            )
+        };
+        found.name.truncate(count);
+        answer(number, found)
+    }
+
+    /// How many places the pointer block read has.
+    pub fn place_count(&self, image: &[u8]) -> Result<usize, Refused> {
+        let mut count = 0;
+        let number = unsafe {
+            raw::delunkpawi_place_count(
+                image.as_ptr(),
+                image.len(),
+                self.granule,
+                self.spt0,
+                self.spt1,
+                &mut count,
+            )
+        };
+        answer(number, count)
+    }
+
+    /// What a place of the pointer block read holds, and its value.
+    pub fn place(&self, image: &[u8], place: usize) -> Result<(Place, u64), Refused> {
+        let (mut kind, mut slot, mut value) = (0, 0, 0);
+        let number = unsafe {
+            raw::delunkpawi_place(
+                image.as_ptr(),
+                image.len(),
+                self.granule,
+                self.spt0,
+                self.spt1,
+                place,
+                &mut kind,
+                &mut slot,
+                &mut value,
+            )
+        };
+        let judgement = match kind {
+            0 => Place::Erased,
+            1 => Place::Live(slot),
+            _ => Place::Dead,
+        };
+        answer(number, (judgement, value))
     }
 
     /// A job by which a slot comes first in the boot order.

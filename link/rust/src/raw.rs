@@ -44,6 +44,71 @@ extern "C" {
         name_length: usize,
         count: *mut usize,
     ) -> u8;
+    pub fn delunkpawi_view(
+        image: *const u8,
+        image_length: usize,
+        granule: usize,
+        spt0: usize,
+        spt1: usize,
+        cpb0: *mut usize,
+        cpb1: *mut usize,
+        table: *mut usize,
+        pointers: *mut usize,
+    ) -> u8;
+    pub fn delunkpawi_copies(
+        image: *const u8,
+        image_length: usize,
+        granule: usize,
+        spt0: usize,
+        spt1: usize,
+        spt0_stands: *mut u8,
+        spt1_stands: *mut u8,
+        cpb0_stands: *mut u8,
+        cpb1_stands: *mut u8,
+        tables_agree: *mut u8,
+        pointers_agree: *mut u8,
+    ) -> u8;
+    pub fn delunkpawi_entry_count(
+        image: *const u8,
+        image_length: usize,
+        granule: usize,
+        spt0: usize,
+        spt1: usize,
+        count: *mut usize,
+    ) -> u8;
+    pub fn delunkpawi_entry(
+        image: *const u8,
+        image_length: usize,
+        granule: usize,
+        spt0: usize,
+        spt1: usize,
+        entry: usize,
+        name: *mut u8,
+        name_length: usize,
+        name_count: *mut usize,
+        start: *mut u64,
+        size: *mut u64,
+        flags: *mut u64,
+    ) -> u8;
+    pub fn delunkpawi_place_count(
+        image: *const u8,
+        image_length: usize,
+        granule: usize,
+        spt0: usize,
+        spt1: usize,
+        count: *mut usize,
+    ) -> u8;
+    pub fn delunkpawi_place(
+        image: *const u8,
+        image_length: usize,
+        granule: usize,
+        spt0: usize,
+        spt1: usize,
+        place: usize,
+        kind: *mut u8,
+        slot: *mut u32,
+        value: *mut u64,
+    ) -> u8;
     pub fn delunkpawi_job_size() -> usize;
     pub fn delunkpawi_enable(
         image: *const u8,

@@ -1,6 +1,6 @@
 //! Document 01's cases on the quarry image, through every function of the library.
 
-use delunkpawi::{Facts, Job, Refused, Setting, Step};
+use delunkpawi::{Condition, Entry, Facts, Job, Place, Refused, Setting, Step, View};
 
 const SETTING: Setting = Setting { granule: 4096, spt0: 0x4000, spt1: 0x5000 };
 
@@ -30,6 +30,39 @@ fn reads() {
     assert_eq!(SETTING.slot_name(&image, 2), Ok(b"P3".to_vec()));
     let facts = Facts { entry: 8, start: 0xA000, size: 0x1000, flags: 0 };
     assert_eq!(SETTING.slot_facts(&image, 2), Ok(facts));
+}
+
+#[test]
+fn looks_into() {
+    let mut image = quarry();
+    let view = View { cpb0: 0x6000, cpb1: 0x7000, table: 0x4000, pointers: 0x6000 };
+    assert_eq!(SETTING.view(&image), Ok(view));
+    assert_eq!(SETTING.entry_count(&image), Ok(9));
+    let first = Entry { name: b"BOOT_INFO".to_vec(), start: 0, size: 0x2000, flags: 1 };
+    assert_eq!(SETTING.entry(&image, 0), Ok(first));
+    assert_eq!(SETTING.entry(&image, 9), Err(Refused(92)));
+    assert_eq!(SETTING.place_count(&image), Ok(508));
+    assert_eq!(SETTING.place(&image, 1), Ok((Place::Live(1), 0x9000)));
+    assert_eq!(SETTING.place(&image, 2), Ok((Place::Erased, u64::MAX)));
+    assert_eq!(SETTING.place(&image, 508), Err(Refused(93)));
+    image[0x6021] = 0;
+    assert_eq!(SETTING.place(&image, 0), Ok((Place::Dead, 0)));
+}
+
+#[test]
+fn tells_which_copies_stand() {
+    let mut image = quarry();
+    let whole =
+        Condition { spt0: true, spt1: true, cpb0: true, cpb1: true, tables: true, pointers: true };
+    assert_eq!(SETTING.condition(&image), Ok(whole));
+    image[0x5FFF] ^= 1;
+    assert_eq!(SETTING.condition(&image), Ok(Condition { tables: false, ..whole }));
+    image[0x6000] = 0;
+    let cut = Condition { cpb0: false, tables: false, pointers: false, ..whole };
+    assert_eq!(SETTING.condition(&image), Ok(cut));
+    assert_eq!(SETTING.view(&image).map(|view| view.pointers), Ok(0x7000));
+    image[0x7000] = 0;
+    assert_eq!(SETTING.condition(&image), Err(Refused(5)));
 }
 
 #[test]

@@ -1,0 +1,4 @@
+pub mod Inside
+pub mod Numbered
+pub mod EntryNames
+pub mod Unread

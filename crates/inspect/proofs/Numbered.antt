@@ -1,0 +1,47 @@
+-- An entry of a table and a place of a pointer block by its number, as code reads it. Assumes nothing.
+use mathlib.Core.Path.{_≡_, sym, ap, _∙_}
+use mathlib.Core.Bool.{true, false}
+use mathlib.Core.List.{List}
+use Prim.Native.Nat.{ℕ, _+_, _≤_, _<_}
+use native.Mathlib.Omega.{arith}
+use borrow.Author.Tests.{lt-ltb, le-ltb}
+use lib.ListN.{length, getD, drop}
+use lib.Seq.{getD-drop}
+use Rattle.rules.specs.Table.{entry-count, entries, no-entry}
+use Rattle.rules.specs.Pointers.{place-count, places, erased-value}
+use Rattle.rules.proofs.Standing.{length-entries-from}
+use Rattle.walks.specs.Entries.{entry-at}
+use Rattle.walks.proofs.Entries.{entry-of-rows}
+use Rattle.places.specs.Added.{place-value}
+use Rattle.places.proofs.Values.{place-turn}
+use Rattle.inspect.specs.Entries.{entry-there, entry-of}
+use Rattle.inspect.specs.Places.{value-of}
+
+-- ---- entries
+
+-- `n` is what the code has of the count
+module _ (t : List ℕ) (i : ℕ) {n : ℕ} (is-count : n ≡ entry-count t) where
+  counted : length (entries t) ≡ n
+  unfolding entries
+  counted = length-entries-from (entry-count t) (drop 0x20 t) ∙ sym is-count
+
+  pub not-there : n ≤ i → entry-there (entries t) i ≡ false
+  unfolding entry-there
+  not-there h = le-ltb i (length (entries t)) (omega (arith, counted))
+
+  pub there : i < n → entry-there (entries t) i ≡ true
+  unfolding entry-there
+  there h = lt-ltb i (length (entries t)) (omega (arith, counted))
+
+  pub entry-found : i < n → entry-of (entries t) i ≡ entry-at t i
+  unfolding entries
+  entry-found h = entry-of-rows (entry-count t) i t no-entry (omega (arith, is-count))
+
+-- ---- places
+
+pub value-found : (p : List ℕ) (k : ℕ) → k < place-count p → value-of p k ≡ place-value p k
+value-found p k h =
+    let e : k + 0 ≡ k = omega arith in
+    ap (λ (i : ℕ). getD (places p) i erased-value) (sym e)
+    ∙ sym (getD-drop k (places p) 0 erased-value)
+    ∙ rw (place-turn p k h)

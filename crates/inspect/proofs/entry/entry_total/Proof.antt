@@ -1,0 +1,60 @@
+-- `inspect::entry::entry_total` is the count of the table read, or a refusal of the view. Assumes nothing.
+use mathlib.Core.Path.{sym}
+use borrow.Author.Needs.{needs}
+use Rattle.rules.specs.Bytes.{block}
+use Rattle.rules.specs.Answers.{given}
+use Rattle.rules.specs.Table.{entry-count}
+use Rattle.inspect.specs.Totals.{totalled}
+use Rattle.inspect.specs.Entries.{entry-total}
+use Rattle.inspect.proofs.Inside.{of-view, no-view, table-within}
+use Rattle.inspect.proofs.entry.entry_total.Statement.{statement}
+use Rattle.inspect.proofs.entry.entry_total.Tie as tie
+
+view-requires : tie.Need-view-requires
+view-requires c κs = search needs
+
+enum-known-seen : tie.Need-enum-known-seen
+enum-known-seen c = search needs
+
+enum-known-seen-2 : tie.Need-enum-known-seen-2
+enum-known-seen-2 c = search needs
+
+block-at-requires : tie.Need-block-at-requires
+block-at-requires c κs =
+    let called = c .before .before .before in
+    let a = called .before .before .args in
+    table-within (a .granule) (a .spt0) (a .spt1) (a .image .now) (called .view .ensures) (c .before .seen2 .given .1)
+
+entry-count-requires : tie.Need-entry-count-requires
+entry-count-requires c κs = search needs
+
+returns : tie.Need-returns
+unfolding totalled entry-total
+returns c =
+    let called = c .before .before .before in
+    let a = called .before .before .args in
+    sym (no-view (a .granule) (a .spt0) (a .spt1) (a .image .now) (called .view .ensures) _ (c .before .seen .given .1))
+
+returns-2 : tie.Need-returns-2
+unfolding totalled entry-total
+returns-2 c =
+    let table = c .before in
+    let seen = table .before .before in
+    let called = seen .before .before in
+    let a = called .before .before .args in
+    rw (c .entry-count .ensures, table .block-at .ensures .0)
+    (sym
+    (of-view (a .granule) (a .spt0) (a .spt1) (a .image .now) (called .view .ensures)
+    (λ _ v. given (entry-count (block (a .image .now) (v .table)))) (seen .seen2 .given .1)))
+
+pub entry-total-spec : {M : Type 1} → statement M
+entry-total-spec =
+    tie.close
+    (tie.spec
+    view-requires
+    enum-known-seen
+    enum-known-seen-2
+    block-at-requires
+    entry-count-requires
+    returns
+    returns-2)

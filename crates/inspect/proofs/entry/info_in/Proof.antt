@@ -1,0 +1,56 @@
+-- `inspect::entry::info_in` reads an entry that is counted, or refuses 92. Assumes nothing.
+use native.Mathlib.Omega.{arith}
+use borrow.Author.Needs.{needs}
+use Rattle.rules.specs.Answers.{unless}
+use Rattle.reading.specs.Answers.{known}
+use Rattle.inspect.specs.Entries.{facts-of, info-in}
+use Rattle.inspect.proofs.Numbered.{not-there, there, entry-found}
+use Rattle.inspect.proofs.entry.info_in.Statement.{statement}
+use Rattle.inspect.proofs.entry.info_in.Tie as tie
+
+entry-count-requires : tie.Need-entry-count-requires
+entry-count-requires c κs = search needs
+
+returns : tie.Need-returns
+unfolding known info-in unless
+returns c =
+    let called = c .before .before in
+    let a = called .before .before .args in
+    rw (not-there (a .t .now) (a .entry .0) (called .entry-count .ensures) (c .if1 .taken))
+
+entry-start-requires : tie.Need-entry-start-requires
+entry-start-requires c κs =
+    let called = c .before .before in
+    let start = called .before .before in
+    (start .pre .whole, omega (arith, start .pre .few, called .entry-count .ensures, c .if1 .left))
+
+entry-size-requires : tie.Need-entry-size-requires
+entry-size-requires c κs = search needs
+
+entry-flags-requires : tie.Need-entry-flags-requires
+entry-flags-requires c κs = search needs
+
+returns-2 : tie.Need-returns-2
+unfolding known info-in unless facts-of
+returns-2 c =
+    let passed = c .before .before .before in
+    let called = passed .before .before in
+    let a = called .before .before .args in
+    rw (
+      there (a .t .now) (a .entry .0) (called .entry-count .ensures) (passed .if1 .left),
+      entry-found (a .t .now) (a .entry .0) (called .entry-count .ensures) (passed .if1 .left),
+      c .before .before .entry-start .ensures,
+      c .before .entry-size .ensures,
+      c .entry-flags .ensures,
+    )
+
+pub info-in-spec : {M : Type 1} → statement M
+info-in-spec =
+    tie.close
+    (tie.spec
+    entry-count-requires
+    returns
+    entry-start-requires
+    entry-size-requires
+    entry-flags-requires
+    returns-2)

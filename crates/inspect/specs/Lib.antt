@@ -1,0 +1,4 @@
+pub mod Condition
+pub mod Totals
+pub mod Entries
+pub mod Places

@@ -1,0 +1,61 @@
+// The places of the pointer block read, by their numbers.
+use super::Held;
+use super::Holding;
+use super::Total;
+use reading::Viewed;
+use rules::PlaceNo;
+ghost use mathlib.Core.Path.{_≡_};
+ghost use Rattle.rules.specs.Numbers.{setting};
+ghost use Rattle.rules.specs.Table.{entry-count};
+ghost use Rattle.walks.specs.Entries.{HasEntries};
+ghost use Rattle.places.specs.StandingPointers.{StandingPointers};
+ghost use Rattle.inspect.specs.Totals.{totalled};
+ghost use Rattle.inspect.specs.Places.{place-total, held-in, place-at, holding};
+
+// Refusals 1 to 5, or how many places there are.
+pub fn place_total(image: &[u8], granule: usize, spt0: usize, spt1: usize) -> Total
+    ensures { λ r. ⌜ totalled r ≡ place-total (setting granule spt0 spt1) (now (image .entry)) ⌝ }
+{
+    let seen = reading::view(image, granule, spt0, spt1);
+    match seen {
+        Viewed::Refused(no) => Total::Refused(no),
+        Viewed::At(v) => {
+            let at = v.pointers;
+            let places = places::places_of(fields::block_at(image, at));
+            Total::Is(places.count)
+        }
+    }
+}
+
+// Refusals 1 to 5 and 93, or what a place holds by the table read.
+pub fn place_at(image: &[u8], granule: usize, spt0: usize, spt1: usize, place: PlaceNo) -> Holding
+    ensures { λ r. ⌜ holding r ≡ place-at (setting granule spt0 spt1) (now (image .entry)) (place .0) ⌝ }
+{
+    let seen = reading::view(image, granule, spt0, spt1);
+    match seen {
+        Viewed::Refused(no) => Holding::Refused(no),
+        Viewed::At(v) => {
+            let table_at = v.table;
+            let pointers_at = v.pointers;
+            let t = fields::block_at(image, table_at);
+            let p = fields::block_at(image, pointers_at);
+            held_in(t, p, place)
+        }
+    }
+}
+
+fn held_in(t: &[u8], p: &[u8], place: PlaceNo) -> Holding
+    requires { ⌜ HasEntries (now t) (entry-count (now t)) × StandingPointers (now p) ⌝ }
+    ensures { λ r. ⌜ holding r ≡ held-in (now (t .entry)) (now (p .entry)) (place .0) ⌝ }
+{
+    let places = places::places_of(p);
+    if places.count <= place.0 {
+        return Holding::Refused(93);
+    }
+    let value = places::place_value(p, places, place);
+    let judgement = places::judge(t, slots::rows_of(t), value);
+    Holding::Is(Held {
+        judgement: judgement,
+        value: value,
+    })
+}

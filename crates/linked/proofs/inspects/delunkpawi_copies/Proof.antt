@@ -1,0 +1,108 @@
+-- `delunkpawi_copies` answers with which copies stand and which pairs agree. Assumes nothing.
+use mathlib.Core.Path.{sym, ap, _∙_}
+use borrow.Author.Needs.{needs}
+use Rattle.inspect.specs.Condition.{inspected}
+use Rattle.linked.specs.Inspected.{bit}
+use Rattle.linked.proofs.Numbered.{number-refused, kept-refused, number-given, kept-given}
+use Rattle.linked.proofs.inspects.delunkpawi_copies.Statement.{statement}
+use Rattle.linked.proofs.inspects.delunkpawi_copies.Tie as tie
+
+condition-of-requires : tie.Need-condition-of-requires
+condition-of-requires c κs = search needs
+
+enum-known-inspected : tie.Need-enum-known-inspected
+enum-known-inspected c = search needs
+
+enum-known-inspected-2 : tie.Need-enum-known-inspected-2
+enum-known-inspected-2 c = search needs
+
+bit-requires : tie.Need-bit-requires
+bit-requires c κs = search needs
+
+bit-requires-2 : tie.Need-bit-requires-2
+bit-requires-2 c κs = search needs
+
+bit-requires-3 : tie.Need-bit-requires-3
+bit-requires-3 c κs = search needs
+
+bit-requires-4 : tie.Need-bit-requires-4
+bit-requires-4 c κs = search needs
+
+bit-requires-5 : tie.Need-bit-requires-5
+bit-requires-5 c κs = search needs
+
+bit-requires-6 : tie.Need-bit-requires-6
+bit-requires-6 c κs = search needs
+
+returns : tie.Need-returns
+unfolding inspected
+returns c =
+    let called = c .before .before .before in
+    let a = called .before .before .args in
+    let e = sym (ap inspected (c .before .inspected .given .1)) ∙ called .condition-of .ensures in (
+      number-refused e,
+      (
+        kept-refused (λ k. bit (k .spt0)) (a .table0 .now) e,
+        (
+          kept-refused (λ k. bit (k .spt1)) (a .table1 .now) e,
+          (
+            kept-refused (λ k. bit (k .cpb0)) (a .pointers0 .now) e,
+            (
+              kept-refused (λ k. bit (k .cpb1)) (a .pointers1 .now) e,
+              (
+                kept-refused (λ k. bit (k .tables)) (a .tables .now) e,
+                kept-refused (λ k. bit (k .pointers)) (a .pointers .now) e,
+              ),
+            ),
+          ),
+        ),
+      ),
+    )
+
+returns-2 : tie.Need-returns-2
+unfolding inspected
+returns-2 c =
+    let at6 = c in
+    let at5 = at6 .before in
+    let at4 = at5 .before in
+    let at3 = at4 .before in
+    let at2 = at3 .before in
+    let at1 = at2 .before in
+    let told = at1 .before .before in
+    let called = told .before .before in
+    let a = called .before .before .args in
+    let e = sym (ap inspected (told .inspected2 .given .1)) ∙ called .condition-of .ensures in (
+      number-given e,
+      (
+        at1 .bit .ensures ∙ kept-given (λ k. bit (k .spt0)) (a .table0 .now) e,
+        (
+          at2 .bit2 .ensures ∙ kept-given (λ k. bit (k .spt1)) (a .table1 .now) e,
+          (
+            at3 .bit3 .ensures ∙ kept-given (λ k. bit (k .cpb0)) (a .pointers0 .now) e,
+            (
+              at4 .bit4 .ensures ∙ kept-given (λ k. bit (k .cpb1)) (a .pointers1 .now) e,
+              (
+                at5 .bit5 .ensures ∙ kept-given (λ k. bit (k .tables)) (a .tables .now) e,
+                at6 .bit6 .ensures ∙ kept-given (λ k. bit (k .pointers)) (a .pointers .now) e,
+              ),
+            ),
+          ),
+        ),
+      ),
+    )
+
+pub delunkpawi-copies-spec : {M : Type 1} → statement M
+delunkpawi-copies-spec =
+    tie.close
+    (tie.spec
+    condition-of-requires
+    enum-known-inspected
+    enum-known-inspected-2
+    bit-requires
+    bit-requires-2
+    bit-requires-3
+    bit-requires-4
+    bit-requires-5
+    bit-requires-6
+    returns
+    returns-2)

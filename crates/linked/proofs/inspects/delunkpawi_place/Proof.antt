@@ -1,0 +1,68 @@
+-- `delunkpawi_place` answers with what a place holds. Assumes nothing.
+use mathlib.Core.Path.{sym, ap, _∙_}
+use borrow.Author.Needs.{needs}
+use Rattle.inspect.specs.Places.{holding}
+use Rattle.linked.specs.Inspected.{place-kind, place-slot}
+use Rattle.linked.proofs.Numbered.{number-refused, kept-refused, number-given, kept-given}
+use Rattle.linked.proofs.inspects.delunkpawi_place.Statement.{statement}
+use Rattle.linked.proofs.inspects.delunkpawi_place.Tie as tie
+
+place-at-requires : tie.Need-place-at-requires
+place-at-requires c κs = search needs
+
+enum-known-holding : tie.Need-enum-known-holding
+enum-known-holding c = search needs
+
+enum-known-holding-2 : tie.Need-enum-known-holding-2
+enum-known-holding-2 c = search needs
+
+kind-of-requires : tie.Need-kind-of-requires
+kind-of-requires c κs = search needs
+
+slot-of-requires : tie.Need-slot-of-requires
+slot-of-requires c κs = search needs
+
+returns : tie.Need-returns
+unfolding holding
+returns c =
+    let called = c .before .before .before in
+    let a = called .before .before .args in
+    let e = sym (ap holding (c .before .holding .given .1)) ∙ called .place-at .ensures in (
+      number-refused e,
+      (
+        kept-refused (λ h. place-kind (h .judgement)) (a .kind .now) e,
+        (
+          kept-refused (λ h. place-slot (h .judgement)) (a .slot .now) e,
+          kept-refused (λ h. h .value) (a .value .now) e,
+        ),
+      ),
+    )
+
+returns-2 : tie.Need-returns-2
+unfolding holding
+returns-2 c =
+    let told = c .before .before .before in
+    let called = told .before .before in
+    let a = called .before .before .args in
+    let e = sym (ap holding (told .holding2 .given .1)) ∙ called .place-at .ensures in (
+      number-given e,
+      (
+        c .before .kind-of .ensures ∙ kept-given (λ h. place-kind (h .judgement)) (a .kind .now) e,
+        (
+          c .slot-of .ensures ∙ kept-given (λ h. place-slot (h .judgement)) (a .slot .now) e,
+          kept-given (λ h. h .value) (a .value .now) e,
+        ),
+      ),
+    )
+
+pub delunkpawi-place-spec : {M : Type 1} → statement M
+delunkpawi-place-spec =
+    tie.close
+    (tie.spec
+    place-at-requires
+    enum-known-holding
+    enum-known-holding-2
+    kind-of-requires
+    slot-of-requires
+    returns
+    returns-2)

@@ -1,0 +1,64 @@
+-- `delunkpawi_view` answers with where things are. Assumes nothing.
+use mathlib.Core.Path.{sym, ap, _∙_}
+use borrow.Author.Needs.{needs}
+use Rattle.reading.specs.Answers.{viewed}
+use Rattle.linked.proofs.Numbered.{number-refused, kept-refused, number-given, kept-given}
+use Rattle.linked.proofs.inspects.delunkpawi_view.Statement.{statement}
+use Rattle.linked.proofs.inspects.delunkpawi_view.Tie as tie
+
+view-requires : tie.Need-view-requires
+view-requires c κs = search needs
+
+enum-known-seen : tie.Need-enum-known-seen
+enum-known-seen c = search needs
+
+enum-known-seen-2 : tie.Need-enum-known-seen-2
+enum-known-seen-2 c = search needs
+
+returns : tie.Need-returns
+unfolding viewed
+returns c =
+    let called = c .before .before .before in
+    let a = called .before .before .args in
+    let e = sym (ap viewed (c .before .seen .given .1)) ∙ called .view .ensures in (
+      number-refused e,
+      (
+        kept-refused (λ v. v .cpb0) (a .cpb0 .now) e,
+        (
+          kept-refused (λ v. v .cpb1) (a .cpb1 .now) e,
+          (
+            kept-refused (λ v. v .table) (a .table .now) e,
+            kept-refused (λ v. v .pointers) (a .pointers .now) e,
+          ),
+        ),
+      ),
+    )
+
+returns-2 : tie.Need-returns-2
+unfolding viewed
+returns-2 c =
+    let called = c .before .before .before in
+    let a = called .before .before .args in
+    let e = sym (ap viewed (c .before .seen2 .given .1)) ∙ called .view .ensures in (
+      number-given e,
+      (
+        kept-given (λ v. v .cpb0) (a .cpb0 .now) e,
+        (
+          kept-given (λ v. v .cpb1) (a .cpb1 .now) e,
+          (
+            kept-given (λ v. v .table) (a .table .now) e,
+            kept-given (λ v. v .pointers) (a .pointers .now) e,
+          ),
+        ),
+      ),
+    )
+
+pub delunkpawi-view-spec : {M : Type 1} → statement M
+delunkpawi-view-spec =
+    tie.close
+    (tie.spec
+    view-requires
+    enum-known-seen
+    enum-known-seen-2
+    returns
+    returns-2)

@@ -1,0 +1,29 @@
+-- `slot_of` is the slot of a live place. Assumes nothing.
+use borrow.Author.Needs.{needs}
+use Rattle.linked.specs.Inspected.{place-slot}
+use Rattle.linked.proofs.judgements.slot_of.Statement.{statement}
+use Rattle.linked.proofs.judgements.slot_of.Tie as tie
+
+enum-told : tie.Need-enum-told
+enum-told c = search needs
+
+enum-known-place : tie.Need-enum-known-place
+enum-known-place c = search needs
+
+enum-told-2 : tie.Need-enum-told-2
+enum-told-2 c = search needs
+
+returns : tie.Need-returns
+unfolding place-slot
+returns c = rw (c .enum-told .given .1)
+
+returns-2 : tie.Need-returns-2
+unfolding place-slot
+returns-2 c = rw (c .before .place .given .1)
+
+returns-3 : tie.Need-returns-3
+unfolding place-slot
+returns-3 c = rw (c .enum-told2 .given .1)
+
+pub slot-of-spec : {M : Type 1} → statement M
+slot-of-spec = tie.close (tie.spec enum-told enum-known-place enum-told-2 returns returns-2 returns-3)

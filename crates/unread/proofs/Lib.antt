@@ -1,0 +1,2 @@
+pub mod OnlyBlocks
+pub mod SmallerGranule

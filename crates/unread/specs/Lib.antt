@@ -1,0 +1,2 @@
+pub mod SameBlocks
+pub mod SmallestGranule

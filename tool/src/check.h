@@ -1,0 +1,10 @@
+/* --check: do the pairs agree, is anything dead. */
+#ifndef CHECK_H
+#define CHECK_H
+
+#include "dump.h"
+#include "options.h"
+
+int show_check(const struct options *options, const struct dump *dump, struct flash *flash);
+
+#endif
