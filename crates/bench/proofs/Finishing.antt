@@ -17,8 +17,8 @@ use Rattle.rules.specs.Steps.{steps}
 use Rattle.rules.specs.Cuts.{Progress, run, runs}
 use Rattle.rules.specs.Book.{name-bytes}
 use Rattle.rules.specs.declared.Step.{Step}
-use Rattle.rules.proofs.Tests.{and-true}
-use Rattle.rules.proofs.Bridge.{never-refused-12}
+use Rattle.rules.proofs.Lists.Tests.{and-true}
+use Rattle.rules.proofs.Claim.Bridge.{never-refused-12}
 use Rattle.jobs.specs.Jobs.{under-way, admitted, steps-done, ran, progress-after, steps-left}
 use Rattle.jobs.specs.declared.Job.{Job}
 use Rattle.jobs.specs.declared.Did.{Did}

@@ -14,13 +14,13 @@ use Rattle.rules.specs.Bytes.{up-to-zero}
 use Rattle.rules.specs.Table.{Entry, rows, is-slot, slots, slot-starts, has-name, is-fixed-name}
 use Rattle.rules.specs.Readers.{slot-row, slot-entry}
 use Rattle.rules.specs.Commands.{name-allowed, name-free}
-use Rattle.rules.proofs.Tests.{by-cases}
-use Rattle.rules.proofs.Ordering.{eqb-swapped, member-of-without}
-use Rattle.rules.proofs.OnceEach.{left-out}
+use Rattle.rules.proofs.Lists.Tests.{by-cases}
+use Rattle.rules.proofs.Order.Ordering.{eqb-swapped, member-of-without}
+use Rattle.rules.proofs.Order.OnceEach.{left-out}
 use Rattle.walks.specs.Find.{find}
 use Rattle.walks.specs.Entries.{slot-from}
 use Rattle.walks.proofs.Find.{any-find}
-use Rattle.rules.proofs.Standing.{length-entries-from}
+use Rattle.rules.proofs.Table.Standing.{length-entries-from}
 use Rattle.walks.proofs.Joined.{and-with-true, and-with-false}
 
 -- ---- a name that is allowed

@@ -6,10 +6,10 @@ use native.Mathlib.Omega.{arith}
 use lib.ListN.{length, replicate, length-append, length-replicate}
 use lib.Seq.{append-snoc, set-at}
 use Rattle.rules.specs.Bytes.{little-endian, bytes-of, field}
-use Rattle.rules.proofs.Words.{length-bytes-of}
+use Rattle.rules.proofs.Lists.Words.{length-bytes-of}
 use Rattle.jobs.specs.Jobs.{place-room, numbers-from}
 use Rattle.blocks.specs.Made.{number-bytes, places-noted}
-use Rattle.blocks.specs.Walked.{noted}
+use Rattle.blocks.specs.Inner.Walked.{noted}
 
 -- ---- one number more
 

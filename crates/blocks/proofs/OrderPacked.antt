@@ -11,11 +11,11 @@ use Rattle.rules.specs.Lists.{without}
 use Rattle.rules.specs.Table.{entry-count, entries, slots, slot-starts, starts}
 use Rattle.rules.specs.Pointers.{order}
 use Rattle.rules.specs.Commands.{pointers-of}
-use Rattle.rules.proofs.OnceEach.{Once, once-order, once-first, once-length}
+use Rattle.rules.proofs.Order.OnceEach.{Once, once-order, once-first, once-length}
 use Rattle.walks.specs.Entries.{most-entries}
 use Rattle.slots.proofs.RowsOf.{few-slots-counted}
 use Rattle.places.proofs.BootOrder.{order-fits}
-use Rattle.blocks.specs.Walked.{SlotNumbers}
+use Rattle.blocks.specs.Inner.Walked.{SlotNumbers}
 
 -- ---- one pointer more
 

@@ -9,8 +9,8 @@ use Rattle.rules.specs.Bytes.{bytes-of, block-size, erased-byte}
 use Rattle.rules.specs.Pointers.{place-offset, place-count}
 use Rattle.rules.specs.Commands.{pointer-bytes, filled, padded-name, put-name}
 use Rattle.rules.specs.Final.{put-at}
-use Rattle.rules.proofs.Words.{length-bytes-of}
-use Rattle.rules.proofs.Filling.{length-pointer-bytes}
+use Rattle.rules.proofs.Lists.Words.{length-bytes-of}
+use Rattle.rules.proofs.Pointers.Filling.{length-pointer-bytes}
 use Rattle.blocks.specs.Made.{erased-block}
 
 -- a block of the same length takes the place of all bytes

@@ -16,14 +16,14 @@ use Rattle.rules.specs.Pointers.{place-count, places, all-ones, judged, slot-gi
 use Rattle.rules.specs.Commands.{is-first, giving}
 use Rattle.rules.specs.declared.Place.{Place}
 use Rattle.rules.specs.declared.Place.the-variants.{Erased, Live, Dead}
-use Rattle.rules.proofs.Tests.{by-cases, clash, and-true}
-use Rattle.places.specs.Added.{place-value}
+use Rattle.rules.proofs.Lists.Tests.{by-cases, clash, and-true}
+use Rattle.places.specs.Inner.Added.{place-value}
 use Rattle.places.proofs.Values.{place-turn}
 pub use Rattle.places.proofs.Values.{length-places}
 use Rattle.places.proofs.Free.{FreeFrom}
 use Rattle.places.proofs.BootOrder.{live-start, member-last}
 use Rattle.walks.proofs.Joined.{or-with-false}
-use Rattle.blocks.specs.Walked.{is-live}
+use Rattle.blocks.specs.Inner.Walked.{is-live}
 use Rattle.blocks.proofs.Noting.{Below}
 
 -- ---- the slot that comes first, from the last place down

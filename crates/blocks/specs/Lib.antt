@@ -1,2 +1,2 @@
-pub mod Walked
 pub mod Made
+pub mod Inner

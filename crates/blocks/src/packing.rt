@@ -13,8 +13,8 @@ ghost use Rattle.rules.specs.Lists.{without};
 ghost use Rattle.rules.specs.Table.{entries, slots, starts};
 ghost use Rattle.rules.specs.Copies.{order-by};
 ghost use Rattle.rules.specs.Commands.{filled, pointers-of};
-ghost use Rattle.places.specs.PlacesOf.{HasPlaces};
-ghost use Rattle.blocks.specs.Walked.{Readable, SlotNumbers, packed};
+ghost use Rattle.places.specs.Inner.PlacesOf.{HasPlaces};
+ghost use Rattle.blocks.specs.Inner.Walked.{Readable, SlotNumbers, packed};
 
 // The pointers of the boot order without a slot, from lowest priority upward, the other places erased.
 pub fn order_without(t: &[u8], rows: Rows, p: &[u8], places: Places, slot: SlotNo) -> Packed

@@ -14,9 +14,9 @@ ghost use Rattle.rules.specs.Pointers.{judged, gives};
 ghost use Rattle.rules.specs.Copies.{order-by};
 ghost use Rattle.rules.specs.Commands.{is-first};
 ghost use Rattle.jobs.specs.Jobs.{place-room};
-ghost use Rattle.places.specs.Added.{place-value};
+ghost use Rattle.places.specs.Inner.Added.{place-value};
 ghost use Rattle.blocks.specs.Made.{places-noted};
-ghost use Rattle.blocks.specs.Walked.{Readable, places-giving, is-live, noted};
+ghost use Rattle.blocks.specs.Inner.Walked.{Readable, places-giving, is-live, noted};
 
 // ---- the slot that comes first
 

@@ -13,7 +13,7 @@ ghost use Rattle.rules.specs.Bytes.{block-size, up-to-zero};
 ghost use Rattle.rules.specs.Table.{rows, entries, slots, slot-starts, starts};
 ghost use Rattle.rules.specs.Commands.{half-cleared-names, put-name, name-allowed, name-free};
 ghost use Rattle.walks.specs.Entries.{most-entries, HasEntries};
-ghost use Rattle.slots.specs.RowsOf.{HasRows};
+ghost use Rattle.slots.specs.Inner.RowsOf.{HasRows};
 
 // Where a slot starts.
 pub fn slot_start(t: &[u8], rows: Rows, slot: SlotNo) -> u64

@@ -13,9 +13,9 @@ use Rattle.rules.specs.Table.{entry-count, entries, rows, slots, has-name, no-e
 use Rattle.rules.specs.Readers.{slot-row, slot-entry, slot-there}
 use Rattle.rules.specs.Commands.{padded-name, put-name, has-already}
 use Rattle.rules.specs.Book.{renamed}
-use Rattle.rules.proofs.Tests.{by-cases, clash, same-true, same-of}
-use Rattle.rules.proofs.Standing.{length-entries-from}
-use Rattle.rules.proofs.Renaming.{slot-row-found}
+use Rattle.rules.proofs.Lists.Tests.{by-cases, clash, same-true, same-of}
+use Rattle.rules.proofs.Table.Standing.{length-entries-from}
+use Rattle.rules.proofs.Table.Renaming.{slot-row-found}
 use Rattle.walks.specs.Entries.{entry-at, most-entries}
 use Rattle.walks.proofs.Entries.{entry-of-rows}
 use Rattle.walks.proofs.Joined.{and-with-false}

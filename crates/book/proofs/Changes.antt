@@ -18,7 +18,7 @@ use Rattle.rules.specs.Commands.{Command, enable, disable, rename, repair, job,
 use Rattle.rules.specs.Book.{Reading, read-by, reading, renamed, changed}
 use Rattle.rules.specs.declared.Step.{Step}
 use Rattle.rules.specs.declared.View.{View}
-use Rattle.rules.proofs.Tests.{by-cases, unless-given, bind-given, given-inj}
+use Rattle.rules.proofs.Lists.Tests.{by-cases, unless-given, bind-given, given-inj}
 use Rattle.walks.specs.Entries.{most-entries}
 use Rattle.commands.proofs.Locating.{located}
 use Rattle.book.specs.Kept.{new-name, slots-of, reading-of, has-slot, takes, taken}

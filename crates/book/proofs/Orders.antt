@@ -10,8 +10,8 @@ use lib.ListN.{length, take, drop, getD, drop-of-length-le, length-replicate}
 use lib.Seq.{take-all, take-suc, drop-cons, length-take-le}
 use borrow.Author.Tests.{leb-true, leb-false, le-leb, lt-leb, eq-eqb, ne-eqb}
 use Rattle.rules.specs.Lists.{same, without}
-use Rattle.rules.proofs.Tests.{by-cases, same-true}
-use Rattle.rules.proofs.OnceEach.{without-length}
+use Rattle.rules.proofs.Lists.Tests.{by-cases, same-true}
+use Rattle.rules.proofs.Order.OnceEach.{without-length}
 use Rattle.walks.specs.Entries.{most-entries}
 use Rattle.text.specs.Put.{Put}
 use Rattle.text.proofs.Puts.{put-nothing, put-whole, then}

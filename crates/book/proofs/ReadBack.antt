@@ -16,18 +16,18 @@ use Rattle.rules.specs.Copies.{view, order-by, boot-order, agreed, pairs-agree}
 use Rattle.rules.specs.Readers.{order-in, order-list, row-after, table-of, table-part}
 use Rattle.rules.specs.Book.{read-by, reading}
 use Rattle.rules.specs.declared.View.{View}
-use Rattle.rules.proofs.Tests.{refused-given, given-inj}
-use Rattle.rules.proofs.Combinators.{kept-no-more}
-use Rattle.rules.proofs.Standing.{length-entries}
-use Rattle.rules.proofs.OnceEach.{once-order, once-length}
-use Rattle.rules.proofs.Frame.{length-block}
+use Rattle.rules.proofs.Lists.Tests.{refused-given, given-inj}
+use Rattle.rules.proofs.Lists.Combinators.{kept-no-more}
+use Rattle.rules.proofs.Table.Standing.{length-entries}
+use Rattle.rules.proofs.Order.OnceEach.{once-order, once-length}
+use Rattle.rules.proofs.Steps.Frame.{length-block}
 use Rattle.walks.specs.Entries.{most-entries}
 use Rattle.reading.specs.Answers.{viewed, listed, count-of}
 use Rattle.reading.specs.declared.Viewed.{Viewed}
 use Rattle.reading.specs.declared.Viewed.the-variants.{At, Refused as NotViewed}
 use Rattle.reading.specs.declared.Listed.{Listed}
 use Rattle.reading.specs.declared.Listed.the-variants.{Count, Refused as NotListed}
-use Rattle.commands.specs.Asked.{Located, copies-equal}
+use Rattle.commands.specs.Inner.Asked.{Located, copies-equal}
 use Rattle.commands.proofs.Locating.{located}
 use Rattle.commands.proofs.EqualCopies.{pairs-agree-if-equal}
 use Rattle.book.specs.Kept.{room}

@@ -5,10 +5,7 @@ use reading::Listed;
 use reading::Viewed;
 use rules::SlotNo;
 ghost use mathlib.Core.Path.{_≡_};
-ghost use Prim.Native.Nat.{_+_, _≤_};
-ghost use lib.ListN.{length};
 ghost use Rattle.rules.specs.Lists.{same};
-ghost use Rattle.rules.specs.Bytes.{block, block-size};
 ghost use Rattle.rules.specs.Copies.{pairs-agree};
 ghost use Rattle.rules.specs.Book.{reading};
 ghost use Rattle.book.specs.Kept.{setting-of, command-of, reading-of, read-as, same-reading, same-answer, taken};
@@ -133,14 +130,8 @@ pub fn pairs_agree(image: &[u8], s: Setting) -> bool
     let seen = reading::view(image, s.granule, s.spt0, s.spt1);
     match seen {
         Viewed::Refused(_) => false,
-        Viewed::At(v) => { same_blocks(image, v.spt0, v.spt1) & same_blocks(image, v.cpb0, v.cpb1) }
+        Viewed::At(v) => {
+            copies::same_blocks(image, v.spt0, v.spt1) & copies::same_blocks(image, v.cpb0, v.cpb1)
+        }
     }
-}
-
-// The blocks at two addresses are equal.
-fn same_blocks(image: &[u8], a: usize, b: usize) -> bool
-    requires { ⌜ (a + block-size ≤ length (now image)) × (b + block-size ≤ length (now image)) ⌝ }
-    ensures { λ r. ⌜ r ≡ same (block (now (image .entry)) a) (block (now (image .entry)) b) ⌝ }
-{
-    parts::same_bytes(fields::block_at(image, a), fields::block_at(image, b))
 }

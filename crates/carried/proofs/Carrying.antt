@@ -5,7 +5,7 @@ use Prim.Native.Nat.{ℕ}
 use Rattle.rules.specs.Bytes.{Bytes}
 use Rattle.rules.specs.Numbers.{Setting}
 use Rattle.rules.specs.Commands.{Command}
-use Rattle.rules.specs.Book.{name-bytes, names-bytes}
+use Rattle.rules.specs.Book.{name-bytes, all-proper}
 use Rattle.jobs.specs.declared.Ran.{Ran}
 use Rattle.commands.specs.Begins.{start-result}
 use Rattle.commands.specs.declared.Begun.{Begun}
@@ -19,7 +19,7 @@ as-carried : (s : Setting) (img : List ℕ) (c : Carried)
     → name-bytes (c .command)
     → carried-out s img c
     → as-asked s img c
-unfolding as-asked all-carried-out item-of names-bytes
+unfolding as-asked all-carried-out item-of all-proper
 as-carried s img c bytes names done =
     (done, λ agree. demand-3-of-code s img bytes agree (c ∷ []) (names, tt) (done, tt))
 

@@ -6,7 +6,7 @@ use lib.ListN.{length}
 use Rattle.rules.specs.Bytes.{Bytes}
 use Rattle.rules.specs.Numbers.{Setting}
 use Rattle.rules.specs.Commands.{Command}
-use Rattle.rules.specs.Book.{name-bytes, names-bytes}
+use Rattle.rules.specs.Book.{name-bytes, all-proper}
 use Rattle.job_bytes.specs.Form.{job-size}
 use Rattle.commands.specs.Begins.{start-result}
 use Rattle.linked.specs.Begun.{handed, started-into}
@@ -48,7 +48,7 @@ as-carried : (s : Setting) (img : List ℕ) (c : CarriedForC)
     → name-bytes (c .command)
     → carried-out-for-c s img c
     → as-asked-for-c s img c
-unfolding as-asked-for-c all-carried-out-for-c by-value item-of names-bytes
+unfolding as-asked-for-c all-carried-out-for-c by-value item-of all-proper
 as-carried s img c bytes names done =
     (done, λ agree. demand-3-for-c s img bytes agree (c ∷ []) (names, tt) (done, tt))
 

@@ -18,9 +18,9 @@ use Rattle.rules.specs.Readers.{slot-row, slot-there}
 use Rattle.rules.specs.Commands.{Command, enable, disable, rename, repair, disable-steps, rename-steps, repair-steps, giving, name-allowed, name-free, job}
 use Rattle.rules.specs.declared.Step.{Step}
 use Rattle.rules.specs.declared.View.{View}
-use Rattle.rules.proofs.Tests.{unless-given}
-use Rattle.rules.proofs.Standing.{length-entries-from}
-use Rattle.rules.proofs.Renaming.{slot-row-found}
+use Rattle.rules.proofs.Lists.Tests.{unless-given}
+use Rattle.rules.proofs.Table.Standing.{length-entries-from}
+use Rattle.rules.proofs.Table.Renaming.{slot-row-found}
 use Rattle.reading.specs.Answers.{viewed}
 use Rattle.reading.specs.declared.Viewed.{Viewed}
 use Rattle.reading.specs.declared.Viewed.the-variants.{At, Refused as NotViewed}
@@ -28,7 +28,7 @@ use Rattle.jobs.specs.declared.Job.{Job}
 use Rattle.blocks.proofs.Walking.{in-order}
 use Rattle.commands.specs.JobFor.{enable-job, disable-job, rename-job, repair-job, job-for}
 use Rattle.commands.specs.Begins.{refusal, started, returned, job-by, start-result}
-use Rattle.commands.specs.Asked.{outcome, copies-equal, slot-asked}
+use Rattle.commands.specs.Inner.Asked.{outcome, copies-equal, slot-asked}
 use Rattle.commands.specs.declared.Begun.{Begun}
 use Rattle.commands.specs.declared.Outcome.{Outcome}
 use Rattle.commands.specs.declared.Outcome.the-variants.{Started, Refused}

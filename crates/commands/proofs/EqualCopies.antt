@@ -2,13 +2,10 @@
 use mathlib.Core.Path.{_≡_, refl, sym, _∙_, subst}
 use mathlib.Core.Bool.{Bool, true, false, not, cond, _&&_}
 use mathlib.Core.Logic.{inl, inr}
-use mathlib.Core.List.{List, [], _∷_, _++_}
-use Prim.Native.Nat.{ℕ, zero, suc, _<_, _+_, _≤_}
-use native.Mathlib.Numerals.{add-one}
-use native.Mathlib.Omega.{arith}
+use mathlib.Core.List.{List, [], _++_}
+use Prim.Native.Nat.{ℕ, _+_, _≤_}
 use lib.Dec.{eqb}
-use lib.ListN.{length, getD, take, drop, drop-of-length-le, length-drop}
-use lib.Seq.{drop-cons, drop-drop}
+use lib.ListN.{length}
 use Rattle.rules.specs.Lists.{same}
 use Rattle.rules.specs.Bytes.{block}
 use Rattle.rules.specs.Answers.{given}
@@ -19,53 +16,13 @@ use Rattle.rules.specs.Copies.{copy-read, table-read, pointers-read, view, pair
 use Rattle.rules.specs.Steps.{rewrite}
 use Rattle.rules.specs.Commands.{repair-pair, repair-steps}
 use Rattle.rules.specs.declared.View.{View}
-use Rattle.rules.proofs.Tests.{by-cases, clash, same-true}
-use Rattle.rules.proofs.CopyRead.{WhichAddress, which-address, equal-agree}
-use Rattle.walks.proofs.Joined.{and-assoc, and-with-true, and-with-false}
+use Rattle.rules.proofs.Lists.Tests.{by-cases, clash, same-true}
+use Rattle.rules.proofs.Copies.CopyRead.{WhichAddress, which-address, equal-agree}
+use Rattle.walks.proofs.Joined.{and-with-false}
 use Rattle.reading.proofs.Seen.{seen}
 use Rattle.blocks.proofs.JobSteps.{rewriting}
 use Rattle.commands.specs.JobFor.{repaired}
-use Rattle.commands.specs.Asked.{copies-equal}
-
--- ---- two lists compared: `equal` tells whether the elements before the i-th are
-
-module _ (a b : List ℕ) (i : ℕ) (equal : Bool) (same-length : length a ≡ length b) where
-  pub same-turn : i < length a
-      → equal && eqb (getD a i 0) (getD b i 0) && same (drop (i + 1) a) (drop (i + 1) b)
-      ≡ equal && same (drop i a) (drop i b)
-  unfolding same
-  same-turn within = rw (drop-cons a i 0 within, drop-cons b i 0 (omega arith), add-one, and-assoc)
-
-  pub same-over : length a ≤ i → equal ≡ equal && same (drop i a) (drop i b)
-  unfolding same
-  same-over over =
-      rw (drop-of-length-le a {i = i} over, drop-of-length-le b {i = i} (omega arith), and-with-true)
-
--- ---- two lists compared in stretches
-
-same-parts : (n : ℕ) (a b : List ℕ) → length a ≡ length b
-    → same a b ≡ same (take n a) (take n b) && same (drop n a) (drop n b)
-unfolding same
-same-parts zero a b h = refl
-same-parts (suc n) [] [] h = refl
-same-parts (suc n) [] (y ∷ b) h = absurd (omega arith)
-same-parts (suc n) (x ∷ a) [] h = absurd (omega arith)
-same-parts (suc n) (x ∷ a) (y ∷ b) h = rw (same-parts n a b (omega arith), and-assoc)
-
-module _ (a b : List ℕ) (from size : ℕ) (same-length : length a ≡ length b) where
-  stretch : same (drop from a) (drop from b)
-      ≡ same (take size (drop from a)) (take size (drop from b)) && same (drop (from + size) a) (drop (from + size) b)
-  stretch =
-      same-parts size (drop from a) (drop from b) (simp length-drop (omega arith))
-      ∙ rw (drop-drop size from a, drop-drop size from b)
-
-  pub stretch-goes : same (take size (drop from a)) (take size (drop from b)) ≡ true
-      → same (drop from a) (drop from b) ≡ same (drop (from + size) a) (drop (from + size) b)
-  stretch-goes t = stretch ∙ rw t
-
-  pub stretch-fails : same (take size (drop from a)) (take size (drop from b)) ≡ false
-      → same (drop from a) (drop from b) ≡ false
-  stretch-fails t = stretch ∙ rw t
+use Rattle.commands.specs.Inner.Asked.{copies-equal}
 
 -- of two things one
 module _ {A : Type 0} (x y : A) where

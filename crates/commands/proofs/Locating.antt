@@ -10,18 +10,18 @@ use Rattle.rules.specs.Numbers.{Setting, setting}
 use Rattle.rules.specs.Table.{entry-count}
 use Rattle.rules.specs.Copies.{view}
 use Rattle.rules.specs.declared.View.{View}
-use Rattle.rules.proofs.Invariant.{granule-holds-block}
-use Rattle.rules.proofs.SlotStarts.{length-fits}
+use Rattle.rules.proofs.Claim.Invariant.{granule-holds-block}
+use Rattle.rules.proofs.Table.SlotStarts.{length-fits}
 use Rattle.reading.proofs.Seen.{seen, blocks-inside, table-followed, pointers-inside, pointers-read-stand}
 use Rattle.walks.specs.Entries.{HasEntries}
-use Rattle.slots.specs.RowsOf.{rows-of}
+use Rattle.slots.specs.Inner.RowsOf.{rows-of}
 use Rattle.slots.specs.declared.Rows.{Rows}
 use Rattle.slots.proofs.RowsOf.{count-of-rows}
-use Rattle.places.specs.StandingPointers.{StandingPointers}
-use Rattle.places.specs.PlacesOf.{places-of}
+use Rattle.places.specs.Inner.StandingPointers.{StandingPointers}
+use Rattle.places.specs.Inner.PlacesOf.{places-of}
 use Rattle.places.specs.declared.Places.{Places}
-use Rattle.blocks.specs.Walked.{Readable}
-use Rattle.commands.specs.Asked.{Located}
+use Rattle.blocks.specs.Inner.Walked.{Readable}
+use Rattle.commands.specs.Inner.Asked.{Located}
 
 pub located : (s : Setting) (img : List ℕ) (v : View) → view s img ≡ given v → Located img v
 located s img v h =

@@ -19,8 +19,8 @@ use Rattle.rules.specs.Readers.{slot-row, slot-there}
 use Rattle.rules.specs.Commands.{Command, enable, disable, rename, repair, reorder-steps, free-place, is-first, into-place, into-places, append-steps, enable-steps, giving, clear-steps, half-cleared-names, disable-steps, has-already, rename-steps, name-allowed, name-free, job, start}
 use Rattle.rules.specs.declared.Step.{Step}
 use Rattle.rules.specs.declared.View.{View}
-use Rattle.rules.proofs.Tests.{by-cases, given-inj, unless-given}
-use Rattle.rules.proofs.PointerHeader.{layout}
+use Rattle.rules.proofs.Lists.Tests.{by-cases, given-inj, unless-given}
+use Rattle.rules.proofs.Pointers.PointerHeader.{layout}
 use Rattle.blocks.specs.Made.{Lists}
 use Rattle.blocks.proofs.JobSteps.{rewrites-lists, no-steps-lists, pair-lists, places-lists}
 use Rattle.blocks.proofs.Walking.{giving-few, giving-below, length-places}

@@ -1,3 +1,3 @@
 pub mod JobFor
 pub mod Begins
-pub mod Asked
+pub mod Inner

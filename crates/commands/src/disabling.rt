@@ -20,7 +20,7 @@ ghost use Rattle.rules.specs.Numbers.{setting};
 ghost use Rattle.rules.specs.Table.{starts};
 ghost use Rattle.rules.specs.Copies.{view};
 ghost use Rattle.rules.specs.Commands.{disable};
-ghost use Rattle.blocks.specs.Walked.{Readable, places-giving};
+ghost use Rattle.blocks.specs.Inner.Walked.{Readable, places-giving};
 ghost use Rattle.blocks.specs.Made.{places-noted};
 ghost use Rattle.commands.specs.JobFor.{disable-job};
 ghost use Rattle.commands.specs.Begins.{returned, job-by};

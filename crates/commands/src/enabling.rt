@@ -20,7 +20,7 @@ ghost use Rattle.rules.specs.Numbers.{setting};
 ghost use Rattle.rules.specs.Table.{entries, slots, starts};
 ghost use Rattle.rules.specs.Copies.{view};
 ghost use Rattle.rules.specs.Commands.{enable};
-ghost use Rattle.blocks.specs.Walked.{Readable};
+ghost use Rattle.blocks.specs.Inner.Walked.{Readable};
 ghost use Rattle.commands.specs.JobFor.{enable-job};
 ghost use Rattle.commands.specs.Begins.{returned, job-by};
 

@@ -1,13 +1,12 @@
 // Refusals 6 and 7, which enable, disable and rename share, and what a start returns.
 use super::Begun;
 use super::Outcome;
-use super::pairs;
 use jobs::Job;
 use rules::SlotNo;
 use rules::View;
 ghost use mathlib.Core.Path.{_≡_};
 ghost use Rattle.commands.specs.Begins.{refusal, started};
-ghost use Rattle.commands.specs.Asked.{Located, outcome, slot-asked};
+ghost use Rattle.commands.specs.Inner.Asked.{Located, outcome, slot-asked};
 
 pub fn refuse(no: u8) -> Begun
     ensures { λ r. ⌜ r ≡ refusal no ⌝ }
@@ -32,7 +31,7 @@ pub fn ask_slot(image: &[u8], v: View, slot: SlotNo) -> Outcome
     requires { ⌜ Located (now image) v ⌝ }
     ensures { λ r. ⌜ outcome r ≡ slot-asked (now (image .entry)) v (slot .0) ⌝ }
 {
-    if !(pairs::same_blocks(image, v.spt0, v.spt1) & pairs::same_blocks(image, v.cpb0, v.cpb1)) {
+    if !(copies::same_blocks(image, v.spt0, v.spt1) & copies::same_blocks(image, v.cpb0, v.cpb1)) {
         return Outcome::Refused(6);
     }
     let at = v.table;

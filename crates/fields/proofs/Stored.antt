@@ -8,7 +8,7 @@ use lib.ListN.{length, take, drop, length-append, length-take, length-drop}
 use lib.Seq.{sets, sets-eq, paste, take-at, drop-at, take-length, length-take-le, drop-drop}
 use Rattle.rules.specs.Bytes.{bytes-of}
 use Rattle.rules.specs.Final.{put-at}
-use Rattle.rules.proofs.Words.{length-bytes-of}
+use Rattle.rules.proofs.Lists.Words.{length-bytes-of}
 
 pub length-put-at : (at : ℕ) (bs img : List ℕ) → at + length bs ≤ length img → length (put-at at bs img) ≡ length img
 unfolding put-at

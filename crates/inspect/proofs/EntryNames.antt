@@ -15,9 +15,9 @@ use Rattle.rules.specs.Readers.{table-of, table-part}
 use Rattle.rules.specs.declared.View.{View}
 use Rattle.rules.specs.declared.Facts.{Facts}
 use Rattle.rules.specs.Lists.{all}
-use Rattle.rules.proofs.Tests.{and-true, by-cases, refused-given}
-use Rattle.rules.proofs.Combinators.{all-at}
-use Rattle.rules.proofs.Standing.{standing}
+use Rattle.rules.proofs.Lists.Tests.{and-true, by-cases, refused-given}
+use Rattle.rules.proofs.Lists.Combinators.{all-at}
+use Rattle.rules.proofs.Table.Standing.{standing}
 use Rattle.reading.proofs.Seen.{seen, table-read-stands}
 use Rattle.inspect.specs.Entries.{entry-there, entry-of, facts-of, info-in, entry-info, name-in, entry-name}
 

@@ -11,9 +11,9 @@ use Rattle.rules.specs.Numbers.{Setting, setting}
 use Rattle.rules.specs.Table.{entry-count}
 use Rattle.rules.specs.Copies.{view}
 use Rattle.rules.specs.declared.View.{View}
-use Rattle.rules.proofs.Invariant.{granule-holds-block}
+use Rattle.rules.proofs.Claim.Invariant.{granule-holds-block}
 use Rattle.walks.specs.Entries.{HasEntries}
-use Rattle.places.specs.StandingPointers.{StandingPointers}
+use Rattle.places.specs.Inner.StandingPointers.{StandingPointers}
 use Rattle.reading.specs.Answers.{viewed}
 use Rattle.reading.specs.declared.Viewed.{Viewed}
 use Rattle.reading.specs.declared.Viewed.the-variants.{At, Refused}

@@ -9,10 +9,10 @@ use lib.ListN.{length, getD, drop}
 use lib.Seq.{getD-drop}
 use Rattle.rules.specs.Table.{entry-count, entries, no-entry}
 use Rattle.rules.specs.Pointers.{place-count, places, erased-value}
-use Rattle.rules.proofs.Standing.{length-entries-from}
+use Rattle.rules.proofs.Table.Standing.{length-entries-from}
 use Rattle.walks.specs.Entries.{entry-at}
 use Rattle.walks.proofs.Entries.{entry-of-rows}
-use Rattle.places.specs.Added.{place-value}
+use Rattle.places.specs.Inner.Added.{place-value}
 use Rattle.places.proofs.Values.{place-turn}
 use Rattle.inspect.specs.Entries.{entry-there, entry-of}
 use Rattle.inspect.specs.Places.{value-of}

@@ -8,7 +8,7 @@ ghost use mathlib.Core.Path.{_≡_};
 ghost use Rattle.rules.specs.Numbers.{setting};
 ghost use Rattle.rules.specs.Table.{entry-count};
 ghost use Rattle.walks.specs.Entries.{HasEntries};
-ghost use Rattle.places.specs.StandingPointers.{StandingPointers};
+ghost use Rattle.places.specs.Inner.StandingPointers.{StandingPointers};
 ghost use Rattle.inspect.specs.Totals.{totalled};
 ghost use Rattle.inspect.specs.Places.{place-total, held-in, place-at, holding};
 

@@ -11,12 +11,12 @@ use borrow.Author.Tests.{eqb-true}
 use Rattle.rules.specs.Bytes.{block-size, bytes-of, field}
 use Rattle.rules.specs.Answers.{given, unless}
 use Rattle.rules.specs.Final.{put-at}
-use Rattle.rules.proofs.Tests.{and-true}
-use Rattle.rules.proofs.Words.{length-bytes-of}
-use Rattle.rules.proofs.ByteLists.{field-by-front}
+use Rattle.rules.proofs.Lists.Tests.{and-true}
+use Rattle.rules.proofs.Lists.Words.{length-bytes-of}
+use Rattle.rules.proofs.Lists.ByteLists.{field-by-front}
 use Rattle.fields.proofs.Stored.{length-put-at}
 use Rattle.jobs.specs.Jobs.{place-room, advanced, returned, ran-by, did-by-run, image-after-run, steps-left, counted, counting}
-use Rattle.jobs.specs.Parts.{listed-length, countable}
+use Rattle.jobs.specs.Inner.Parts.{listed-length, countable}
 use Rattle.jobs.specs.declared.Job.{Job}
 use Rattle.jobs.specs.declared.Ran.{Ran}
 use Rattle.jobs.specs.declared.Did.{Did}

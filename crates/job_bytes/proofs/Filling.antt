@@ -7,7 +7,7 @@ use lib.ListN.{length, take, drop, length-append, length-drop, take-append-drop,
 use lib.Seq.{take-at, drop-at, drop-drop, length-take-le}
 use Rattle.rules.specs.Bytes.{bytes-of}
 use Rattle.rules.specs.Final.{put-at}
-use Rattle.rules.proofs.Words.{length-bytes-of}
+use Rattle.rules.proofs.Lists.Words.{length-bytes-of}
 
 pub length-stretch : (bs : List ℕ) (k n : ℕ) → k + n ≤ length bs → length (take n (drop k bs)) ≡ n
 length-stretch bs k n h = length-take-le n (drop k bs) (rw length-drop (omega arith))

@@ -8,7 +8,7 @@ use lib.ListN.{length, take, drop, length-append, length-drop}
 use lib.Seq.{take-nil, take-at, drop-at, drop-drop, take-add, length-take-le}
 use Rattle.rules.specs.Bytes.{block-size}
 use Rattle.rules.specs.Final.{put-at}
-use Rattle.rules.proofs.ByteLists.{field-by-front}
+use Rattle.rules.proofs.Lists.ByteLists.{field-by-front}
 use Rattle.jobs.specs.Jobs.{place-room, numbers-from, meant, part, listed, steps-of}
 use Rattle.jobs.specs.declared.Kind.{Kind}
 use Rattle.jobs.specs.declared.Kind.the-variants.{Nothing, Rewrite, Places}

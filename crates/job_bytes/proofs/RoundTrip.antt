@@ -10,7 +10,7 @@ use lib.Seq.{take-at, take-all}
 use borrow.Author.Tests.{eq-eqb}
 use Rattle.rules.specs.Bytes.{block-size, bytes-of, field}
 use Rattle.rules.specs.Answers.{given, unless}
-use Rattle.rules.proofs.Words.{length-bytes-of}
+use Rattle.rules.proofs.Lists.Words.{length-bytes-of}
 use Rattle.jobs.specs.Jobs.{place-room}
 use Rattle.jobs.specs.declared.Kind.{Kind}
 use Rattle.jobs.specs.declared.Kind.the-variants.{Nothing, Rewrite, Places}

@@ -9,7 +9,7 @@ ghost use lib.ListN.{length};
 ghost use Rattle.rules.specs.Bytes.{field};
 ghost use Rattle.rules.specs.Answers.{given};
 ghost use Rattle.jobs.specs.Jobs.{returned, did-by-run, image-after-run, steps-left, next-of};
-ghost use Rattle.jobs.specs.Parts.{countable};
+ghost use Rattle.jobs.specs.Inner.Parts.{countable};
 ghost use Rattle.job_bytes.specs.Form.{job-size, done-at, kind-numbered, plan-from, job-from, holds-job, decoded};
 ghost use Rattle.job_bytes.specs.Running.{bytes-after, RanHere, CountedHere};
 

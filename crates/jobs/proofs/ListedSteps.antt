@@ -6,13 +6,13 @@ use Prim.Native.Nat.{ℕ, _-_, _≤_, _<_, min}
 use native.Mathlib.Omega.{arith}
 use lib.ListN.{length, drop, length-append}
 use lib.Seq.{drop-nil}
-use Rattle.rules.proofs.Tests.{and-true}
+use Rattle.rules.proofs.Lists.Tests.{and-true}
 use Rattle.rules.specs.Lists.{all}
 use Rattle.rules.specs.Steps.{steps}
 use Rattle.rules.specs.Cuts.{inside}
 use Rattle.rules.specs.declared.Step.{Step}
 use Rattle.jobs.specs.Jobs.{place-room, meant, part, listed, first-step}
-use Rattle.jobs.specs.Parts.{Sized, chosen, beyond, part-length, listed-length, part-inside, listed-inside}
+use Rattle.jobs.specs.Inner.Parts.{Sized, chosen, beyond, part-length, listed-length, part-inside, listed-inside}
 use Rattle.jobs.specs.declared.windows.Window.{Window}
 use Rattle.jobs.specs.declared.Kind.{Kind}
 use Rattle.jobs.specs.declared.Kind.the-variants.{Nothing, Rewrite, Places}

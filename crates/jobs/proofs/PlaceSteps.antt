@@ -8,14 +8,14 @@ use lib.Dec.{eqb, leb}
 use lib.ListN.{length, getD, drop, length-append, drop-of-length-le}
 use lib.Seq.{drop-nil, take-nil}
 use borrow.Author.Tests.{eqb-true, leb-true, leb-false}
-use Rattle.rules.proofs.Tests.{and-true}
+use Rattle.rules.proofs.Lists.Tests.{and-true}
 use Rattle.rules.specs.Lists.{all}
 use Rattle.rules.specs.Bytes.{field}
 use Rattle.rules.specs.Steps.{steps, programs}
 use Rattle.rules.specs.Commands.{into-place, into-places}
 use Rattle.rules.specs.Cuts.{inside}
 use Rattle.jobs.specs.Jobs.{numbers-from, first-step}
-use Rattle.jobs.specs.Parts.{chosen, beyond, programs-inside, places-inside}
+use Rattle.jobs.specs.Inner.Parts.{chosen, beyond, programs-inside, places-inside}
 use Rattle.jobs.specs.declared.windows.Window.{Window}
 use Rattle.jobs.specs.declared.Next.the-variants.{Finished}
 use Rattle.jobs.proofs.Splits.{all-split, steps-split, first-left, first-right}

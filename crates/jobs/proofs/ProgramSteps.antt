@@ -11,15 +11,15 @@ use lib.Dec.{leb, ltb}
 use lib.ListN.{length, getD, take, drop, length-drop, drop-of-length-le}
 use lib.Seq.{drop-cons, take-nil, take-all}
 use borrow.Author.Tests.{lt-ltb, le-ltb, lt-leb, leb-true, leb-false, ltb-false}
-use Rattle.rules.proofs.Tests.{by-cases, or-true}
-use Rattle.rules.proofs.Programming.{steps-append}
+use Rattle.rules.proofs.Lists.Tests.{by-cases, or-true}
+use Rattle.rules.proofs.Steps.Programming.{steps-append}
 use Rattle.walks.proofs.Joined.{and-with-true}
 use Rattle.rules.specs.Lists.{all}
 use Rattle.rules.specs.Steps.{step, steps, programmed, programs}
 use Rattle.rules.specs.Cuts.{inside}
 use Rattle.rules.specs.declared.Step.the-variants.{Program}
 use Rattle.jobs.specs.Jobs.{first-step}
-use Rattle.jobs.specs.Parts.{chosen, programs-inside}
+use Rattle.jobs.specs.Inner.Parts.{chosen, programs-inside}
 use Rattle.jobs.specs.declared.windows.Window.{Window}
 use Rattle.jobs.proofs.Splits.{take-least}
 use Rattle.jobs.specs.declared.Next.the-variants.{Is, Finished}

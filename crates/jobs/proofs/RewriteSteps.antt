@@ -9,7 +9,7 @@ use lib.Dec.{eqb, leb, ltb}
 use lib.ListN.{length, take, drop, length-append, length-take, length-drop, drop-of-length-le}
 use lib.Seq.{take-nil}
 use borrow.Author.Tests.{le-leb, leb-true, ltb-true, ltb-false, eqb-true, eqb-false}
-use Rattle.rules.proofs.Tests.{and-true, or-true, or-false}
+use Rattle.rules.proofs.Lists.Tests.{and-true, or-true, or-false}
 use Rattle.walks.proofs.Joined.{and-with-true}
 use Rattle.rules.specs.Bytes.{block-size}
 use Rattle.rules.specs.Lists.{all}
@@ -17,7 +17,7 @@ use Rattle.rules.specs.Steps.{step, steps, wiped, programs, rewrite}
 use Rattle.rules.specs.Cuts.{inside}
 use Rattle.rules.specs.declared.Step.the-variants.{Erase}
 use Rattle.jobs.specs.Jobs.{first-step}
-use Rattle.jobs.specs.Parts.{chosen, beyond, rest-size, erase-inside, programs-inside, rewrite-inside}
+use Rattle.jobs.specs.Inner.Parts.{chosen, beyond, rest-size, erase-inside, programs-inside, rewrite-inside}
 use Rattle.jobs.specs.declared.windows.Window.{Window}
 use Rattle.jobs.proofs.Splits.{all-split, steps-joined, first-left, first-right}
 use Rattle.jobs.proofs.ProgramSteps.{length-programs, inside-programs}

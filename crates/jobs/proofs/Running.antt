@@ -8,13 +8,13 @@ use lib.Dec.{eqb, ltb}
 use lib.ListN.{length, take, drop, length-take, length-drop}
 use lib.Seq.{drop-drop}
 use borrow.Author.Tests.{lt-ltb, le-ltb}
-use Rattle.rules.proofs.Tests.{clash}
+use Rattle.rules.proofs.Lists.Tests.{clash}
 use Rattle.rules.specs.Lists.{all}
 use Rattle.rules.specs.Answers.{Answer, refused, given, unless}
 use Rattle.rules.specs.Steps.{steps}
 use Rattle.rules.specs.Cuts.{Progress, run, inside, may-run}
 use Rattle.jobs.specs.Jobs.{listed, steps-of, under-way, admitted, steps-done, advanced, returned, ran, progress-after, ran-by, did-by-run, image-after-run, steps-left}
-use Rattle.jobs.specs.Parts.{Sized, listed-length, countable, listed-inside}
+use Rattle.jobs.specs.Inner.Parts.{Sized, listed-length, countable, listed-inside}
 use Rattle.jobs.specs.declared.Job.{Job}
 use Rattle.jobs.specs.declared.Did.{Did}
 use Rattle.jobs.specs.declared.Did.the-variants.{Steps, Refused}

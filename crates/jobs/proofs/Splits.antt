@@ -9,14 +9,14 @@ use lib.Dec.{leb}
 use lib.ListN.{length, take, drop, length-drop, drop-of-length-le}
 use lib.Seq.{take-all, take-length, drop-length}
 use borrow.Author.Tests.{leb-true, leb-false}
-use Rattle.rules.proofs.Tests.{by-cases}
-use Rattle.rules.proofs.Programming.{steps-append}
+use Rattle.rules.proofs.Lists.Tests.{by-cases}
+use Rattle.rules.proofs.Steps.Programming.{steps-append}
 use Rattle.walks.proofs.Joined.{and-assoc}
 use Rattle.rules.specs.Lists.{all}
 use Rattle.rules.specs.Steps.{steps}
 use Rattle.rules.specs.declared.Step.{Step}
 use Rattle.jobs.specs.Jobs.{first-step}
-use Rattle.jobs.specs.Parts.{chosen, beyond}
+use Rattle.jobs.specs.Inner.Parts.{chosen, beyond}
 use Rattle.jobs.specs.declared.windows.Window.{Window}
 
 module _ {A : Type 0} where

@@ -14,7 +14,7 @@ ghost use Rattle.rules.specs.Bytes.{field};
 ghost use Rattle.rules.specs.Steps.{steps, programs};
 ghost use Rattle.rules.specs.Commands.{into-places};
 ghost use Rattle.jobs.specs.Jobs.{place-room, meant, first-step};
-ghost use Rattle.jobs.specs.Parts.{highest-address, programs-inside, places-inside, chosen, beyond};
+ghost use Rattle.jobs.specs.Inner.Parts.{highest-address, programs-inside, places-inside, chosen, beyond};
 
 // The room for places' numbers in a job.
 pub const PLACE_ROOM: usize = 508;

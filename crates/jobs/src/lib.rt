@@ -5,7 +5,7 @@ use windows::Window;
 ghost use mathlib.Core.Path.{_≡_};
 ghost use Prim.Native.Nat.{_-_};
 ghost use Rattle.jobs.specs.Jobs.{ran-by, returned, lent, did-by-run, image-after-run, steps-left, next-of, counted, counting};
-ghost use Rattle.jobs.specs.Parts.{Sized, listed-length, countable};
+ghost use Rattle.jobs.specs.Inner.Parts.{Sized, listed-length, countable};
 
 mod device;
 mod into_places;

@@ -13,7 +13,7 @@ ghost use Prim.Native.Nat.{_+_, _*_, _≤_, min};
 ghost use lib.ListN.{length, drop};
 ghost use Rattle.rules.specs.Steps.{steps};
 ghost use Rattle.jobs.specs.Jobs.{place-room, meant, part, listed, first-step};
-ghost use Rattle.jobs.specs.Parts.{Sized, part-length, listed-length, part-inside, listed-inside, chosen};
+ghost use Rattle.jobs.specs.Inner.Parts.{Sized, part-length, listed-length, part-inside, listed-inside, chosen};
 
 // A rewrite: the erase and a byte each.
 const REWRITE_STEPS: usize = 4097;

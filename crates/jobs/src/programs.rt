@@ -12,7 +12,7 @@ ghost use lib.ListN.{length, drop};
 ghost use Rattle.rules.specs.Bytes.{block-size};
 ghost use Rattle.rules.specs.Steps.{steps, programs};
 ghost use Rattle.jobs.specs.Jobs.{first-step};
-ghost use Rattle.jobs.specs.Parts.{highest-address, programs-inside, chosen, beyond};
+ghost use Rattle.jobs.specs.Inner.Parts.{highest-address, programs-inside, chosen, beyond};
 
 // Do those in a window, whatever the granule; the window beyond them.
 pub fn do_range(image: &mut [u8], at: usize, given: &[u8], window: Window) -> Window

@@ -15,7 +15,7 @@ ghost use Rattle.rules.specs.Bytes.{block-size};
 ghost use Rattle.rules.specs.Steps.{steps, rewrite};
 ghost use Rattle.rules.specs.declared.Step.the-variants.{Erase};
 ghost use Rattle.jobs.specs.Jobs.{first-step};
-ghost use Rattle.jobs.specs.Parts.{highest-address, erase-inside, rewrite-inside, chosen, beyond};
+ghost use Rattle.jobs.specs.Inner.Parts.{highest-address, erase-inside, rewrite-inside, chosen, beyond};
 
 // The bytes after the magic.
 const REST_SIZE: usize = 4092;

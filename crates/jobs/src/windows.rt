@@ -1,7 +1,7 @@
 // Of some steps those from one on, at most so many.
 use super::numbers;
 ghost use mathlib.Core.Path.{_≡_};
-ghost use Rattle.jobs.specs.Parts.{beyond};
+ghost use Rattle.jobs.specs.Inner.Parts.{beyond};
 
 pub struct Window {
     pub from: usize,

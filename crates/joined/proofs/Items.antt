@@ -9,12 +9,13 @@ use Rattle.rules.specs.Numbers.{Setting}
 use Rattle.rules.specs.Copies.{view}
 use Rattle.rules.specs.Commands.{start}
 use Rattle.rules.specs.Cuts.{Progress, half-done, dropped}
-use Rattle.rules.specs.Book.{Reading, Item, how-ended, read-by, reading, progress, left-by, flash-after, ended-by, outcome, name-bytes}
+use Rattle.rules.specs.Book.{the-commands, Reading, Item, how-ended, read-by, reading, progress, left-by, flash-after, ended-by, outcome, name-bytes}
 use Rattle.rules.specs.declared.Step.{Step}
-use Rattle.rules.proofs.Tests.{bind-given}
-use Rattle.rules.proofs.Bridge.{never-refused-12}
-use Rattle.rules.proofs.Viewing.{viewed, beginning, holds-at-first}
-use Rattle.rules.proofs.OneItem.{one-item}
+use Rattle.rules.proofs.Lists.Tests.{bind-given}
+use Rattle.rules.proofs.Claim.Bridge.{never-refused-12}
+use Rattle.rules.proofs.Claim.Viewing.{viewed, beginning, holds-at-first}
+use Rattle.rules.proofs.Claim.OneItem.{one-item}
+use Rattle.rules.proofs.Claim.EveryJob.{the-commands-right}
 use Rattle.commands.specs.Begins.{begins}
 use Rattle.joined.specs.Runs.{all-ran, left-by-runs}
 use Rattle.joined.specs.Items.{Carried, carried-out, flash-left, ended-as, ending, item-of}
@@ -71,7 +72,7 @@ module _ (s : Setting) (img : List ℕ) (c : Carried) where
       by-answer (given ss) e b = rw e (when-given ss b (runs-are-progress ss bytes names e b went))
 
 -- an item leaves bytes
-pub still-bytes : (s : Setting) (img : List ℕ) (r : Reading) (i : Item)
+pub still-bytes : (s : Setting) (img : List ℕ) (r : Reading) (i : Item the-commands)
     → Bytes img
     → name-bytes (i .command)
     → reading s img ≡ given r
@@ -80,5 +81,5 @@ unfolding reading
 still-bytes s img r i bytes names e =
     let (v, ev, _) = bind-given (view s img) _ r e in
     let w = viewed s img v ev in
-    let (choice, right) = one-item (beginning s img v w) img (read-by img v) (holds-at-first s img v w bytes) i names in
+    let (choice, right) = one-item the-commands the-commands-right (beginning s img v w) img (read-by img v) (holds-at-first s img v w bytes) i names in
     right .holds .bytes

@@ -14,7 +14,7 @@ use Rattle.rules.specs.Copies.{view, boot-order}
 use Rattle.rules.specs.Readers.{order-in, order-list, row-after, table-of, table-part}
 use Rattle.rules.specs.Book.{Reading, read-by, reading}
 use Rattle.rules.specs.declared.View.{View}
-use Rattle.rules.proofs.Tests.{bind-given, given-inj, refused-given}
+use Rattle.rules.proofs.Lists.Tests.{bind-given, given-inj, refused-given}
 use Rattle.reading.specs.Answers.{listed, count-of}
 use Rattle.reading.specs.declared.Listed.{Listed}
 use Rattle.reading.specs.declared.Listed.the-variants.{Count, Refused}

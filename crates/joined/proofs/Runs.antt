@@ -11,7 +11,7 @@ use Rattle.rules.specs.Answers.{Answer, refused, given, unless}
 use Rattle.rules.specs.Steps.{steps}
 use Rattle.rules.specs.Cuts.{Progress, run, may-run, runs}
 use Rattle.rules.specs.declared.Step.{Step}
-use Rattle.rules.proofs.Cutting.{under-way as started-with}
+use Rattle.rules.proofs.Steps.Cutting.{under-way as started-with}
 use Rattle.jobs.specs.Jobs.{steps-of, under-way, admitted, ran, progress-after, ran-by}
 use Rattle.jobs.specs.declared.Job.{Job}
 use Rattle.jobs.specs.declared.Plan.{Plan}

@@ -23,8 +23,8 @@ use Rattle.rules.specs.Bytes.{Bytes}
 use Rattle.rules.specs.Answers.{given}
 use Rattle.rules.specs.Numbers.{Setting}
 use Rattle.rules.specs.Copies.{pairs-agree}
-use Rattle.rules.specs.Book.{Reading, Outcome, reading, flash-after, outcome, booked, Holds, follows, names-bytes, Demand3}
-use Rattle.rules.proofs.Theorem.{demand-3}
+use Rattle.rules.specs.Book.{the-commands, Reading, Outcome, reading, flash-after, outcome, booked, Holds, follows, all-proper, Demand3}
+use Rattle.rules.proofs.Claim.Theorem.{demand-3}
 use Rattle.joined.specs.Items.{Carried, item-of, all-carried-out}
 use Rattle.joined.specs.ReadOut.{Answers}
 use Rattle.joined.specs.Claim.{Shown, all-shown, Demand3-as-told, Demand3-of-code}
@@ -44,17 +44,17 @@ module _ (s : Setting) (Told : List ℕ → Reading → Type 0)
     by-code : (cs : List Carried) (choices : List Bool) (img : List ℕ) (r : Reading)
         → Bytes img
         → reading s img ≡ given r
-        → names-bytes (map item-of cs)
+        → all-proper (map item-of cs)
         → all-carried-out s img cs
         → follows s t first (map item-of cs) choices img r
         → all-shown Told s t first cs choices img r
-    unfolding follows all-shown all-carried-out names-bytes item-of
+    unfolding follows all-shown all-carried-out all-proper item-of
     by-code [] choices img r bytes e names done f = tt
     by-code (c ∷ cs) [] img r bytes e names done f = f
     by-code (c ∷ cs) (b ∷ bs) img r bytes e names done (h, f) =
         let (flash, ended) = item-by-code s img c bytes (names .0) (done .0) in
         let img′ : List ℕ = flash-after s img (item-of c) in
-        let r′ : Reading = booked (c .command) (outcome s img (item-of c)) b r in
+        let r′ : Reading = booked the-commands (c .command) (outcome s img (item-of c)) b r in
         rw (flash, ended) (
           shown img′ (outcome s img (item-of c)) r′ h,
           by-code cs bs img′ r′ (still-bytes s img r (item-of c) bytes (names .0) e) (h .reads) (names .1)
@@ -65,7 +65,7 @@ module _ (s : Setting) (Told : List ℕ → Reading → Type 0)
       → Bytes img
       → pairs-agree s img ≡ true
       → (cs : List Carried)
-      → names-bytes (map item-of cs)
+      → all-proper (map item-of cs)
       → all-carried-out s img cs
       → Demand3-as-told Told s img cs
   unfolding Demand3 Demand3-as-told
@@ -77,7 +77,7 @@ pub demand-3-of-code : (s : Setting) (img : List ℕ)
     → Bytes img
     → pairs-agree s img ≡ true
     → (cs : List Carried)
-    → names-bytes (map item-of cs)
+    → all-proper (map item-of cs)
     → all-carried-out s img cs
     → Demand3-of-code s img cs
 demand-3-of-code s img = demand-3-as-told s (Answers s) (readers-answer s) img

@@ -5,7 +5,7 @@ use lib.ListN.{length}
 use Rattle.rules.specs.Numbers.{Setting}
 use Rattle.rules.specs.Commands.{Command, start}
 use Rattle.rules.specs.Cuts.{dropped}
-use Rattle.rules.specs.Book.{Item, Outcome, was-refused, how-ended}
+use Rattle.rules.specs.Book.{the-commands, Item, Outcome, was-refused, how-ended}
 use Rattle.rules.specs.declared.Step.{Step}
 use Rattle.commands.specs.Begins.{begins}
 use Rattle.commands.specs.declared.Begun.{Begun}
@@ -39,7 +39,7 @@ unfoldable pub ending : List ℕ → Carried → Outcome
 ending img c = ended-as (c .begun .answer) (left-by-runs (c .begun .job) img (c .runs) .left)
 
 -- the book's item
-unfoldable pub item-of : Carried → Item
+unfoldable pub item-of : Carried → Item the-commands
 item-of c = record { command = c .command; budgets = map (λ (r : Run). r .budget) (c .runs); wiped = c .wiped }
 
 -- a list of them, each on the flash that the last one left

@@ -11,7 +11,7 @@ use Rattle.rules.specs.Numbers.{Setting}
 use Rattle.rules.specs.Commands.{start}
 use Rattle.rules.specs.Cuts.{Progress, run}
 use Rattle.rules.specs.declared.Step.{Step}
-use Rattle.rules.proofs.Tests.{given-inj, unless-given}
+use Rattle.rules.proofs.Lists.Tests.{given-inj, unless-given}
 use Rattle.jobs.specs.Jobs.{under-way, admitted, steps-done, advanced, ran, progress-after, ran-by, did-by-run, image-after-run}
 use Rattle.jobs.specs.declared.Job.{Job}
 use Rattle.jobs.specs.declared.Did.{Did}

@@ -8,7 +8,7 @@ use Rattle.rules.specs.Numbers.{Setting}
 use Rattle.rules.specs.Copies.{view}
 use Rattle.rules.specs.Readers.{order-list, slot-count, slot-facts, slot-name, table-of, table-part}
 use Rattle.rules.specs.Book.{Reading, read-by, reading}
-use Rattle.rules.proofs.Tests.{bind-given, given-inj}
+use Rattle.rules.proofs.Lists.Tests.{bind-given, given-inj}
 use Rattle.linked.specs.Answered.{Written}
 use Rattle.joined.proofs.ReadBack.{order-there}
 use Rattle.joined_for_c.specs.Claim.{AnswersForC}

@@ -20,7 +20,7 @@ use Prim.Native.Nat.{ℕ}
 use Rattle.rules.specs.Bytes.{Bytes}
 use Rattle.rules.specs.Numbers.{Setting}
 use Rattle.rules.specs.Copies.{pairs-agree}
-use Rattle.rules.specs.Book.{names-bytes}
+use Rattle.rules.specs.Book.{all-proper}
 use Rattle.joined.specs.Items.{item-of}
 use Rattle.joined.proofs.Theorem.{demand-3-as-told}
 use Rattle.joined_for_c.specs.Items.{CarriedForC, by-value, all-carried-out-for-c}
@@ -32,7 +32,7 @@ pub demand-3-for-c : (s : Setting) (img : List ℕ)
     → Bytes img
     → pairs-agree s img ≡ true
     → (cs : List CarriedForC)
-    → names-bytes (map item-of (map by-value cs))
+    → all-proper (map item-of (map by-value cs))
     → all-carried-out-for-c s img cs
     → Demand3-for-c s img cs
 demand-3-for-c s img bytes agree cs names done =

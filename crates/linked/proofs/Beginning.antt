@@ -10,7 +10,7 @@ use Rattle.rules.specs.Answers.{Answer, refused, given, unless}
 use Rattle.rules.specs.Numbers.{Setting}
 use Rattle.rules.specs.Commands.{Command, start}
 use Rattle.rules.specs.declared.Step.{Step}
-use Rattle.rules.proofs.Tests.{by-cases}
+use Rattle.rules.proofs.Lists.Tests.{by-cases}
 use Rattle.jobs.specs.declared.Plan.{Plan}
 use Rattle.jobs.specs.declared.Job.{Job}
 use Rattle.blocks.specs.Made.{Lists}

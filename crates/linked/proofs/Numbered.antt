@@ -4,7 +4,7 @@ use mathlib.Core.List.{List}
 use Prim.Native.Nat.{ℕ}
 use lib.ListN.{length}
 use Rattle.rules.specs.Answers.{Answer, refused, given, _>>=_}
-use Rattle.rules.proofs.Tests.{refused-given}
+use Rattle.rules.proofs.Lists.Tests.{refused-given}
 use Rattle.reading.specs.Answers.{count-of}
 use Rattle.linked.specs.Answered.{number, kept}
 

@@ -17,21 +17,21 @@ use Rattle.rules.specs.Readers.{slot-row, slot-there}
 use Rattle.rules.specs.Commands.{Command, enable, disable, rename, repair, filled, pointers-of, free-place, is-first, giving, half-cleared-names, has-already, put-name, name-allowed, job}
 use Rattle.rules.specs.declared.Step.{Step}
 use Rattle.rules.specs.declared.View.{View}
-use Rattle.rules.proofs.Tests.{by-cases, unless-given}
-use Rattle.rules.proofs.Words.{length-bytes-of}
-use Rattle.rules.proofs.Frame.{length-block}
-use Rattle.rules.proofs.OnceEach.{without-length}
-use Rattle.rules.proofs.Standing.{length-entries}
-use Rattle.rules.proofs.PointerHeader.{layout, places-fit}
-use Rattle.rules.proofs.Filling.{length-filled}
-use Rattle.rules.proofs.PutName.{put-length}
-use Rattle.rules.proofs.Renaming.{slot-row-found, allowed}
+use Rattle.rules.proofs.Lists.Tests.{by-cases, unless-given}
+use Rattle.rules.proofs.Lists.Words.{length-bytes-of}
+use Rattle.rules.proofs.Steps.Frame.{length-block}
+use Rattle.rules.proofs.Order.OnceEach.{without-length}
+use Rattle.rules.proofs.Table.Standing.{length-entries}
+use Rattle.rules.proofs.Pointers.PointerHeader.{layout, places-fit}
+use Rattle.rules.proofs.Pointers.Filling.{length-filled}
+use Rattle.rules.proofs.Table.PutName.{put-length}
+use Rattle.rules.proofs.Table.Renaming.{slot-row-found, allowed}
 use Rattle.reading.proofs.Seen.{seen, blocks-inside}
 use Rattle.jobs.specs.Jobs.{place-room}
 use Rattle.blocks.specs.Made.{no-job}
 use Rattle.blocks.proofs.Walking.{giving-few, length-places}
 use Rattle.blocks.proofs.OrderPacked.{few-in-order}
-use Rattle.commands.specs.Asked.{Located}
+use Rattle.commands.specs.Inner.Asked.{Located}
 use Rattle.commands.specs.JobFor.{reorder-job, in-places-job, enable-job, disable-job, rename-job, repaired, repair-job, job-for}
 use Rattle.commands.specs.Begins.{returned, job-by, start-result}
 use Rattle.commands.proofs.Locating.{located}

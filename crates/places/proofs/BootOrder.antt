@@ -16,11 +16,11 @@ use Rattle.rules.specs.Pointers.{place-count, places, judged, slot-given, add-l
 use Rattle.rules.specs.declared.SlotNo.{SlotNo}
 use Rattle.rules.specs.declared.Place.{Place}
 use Rattle.rules.specs.declared.Place.the-variants.{Erased, Live, Dead}
-use Rattle.rules.proofs.Tests.{by-cases, and-true}
-use Rattle.rules.proofs.Clearing.{named-starts}
-use Rattle.rules.proofs.OnceEach.{once-order, once-length}
+use Rattle.rules.proofs.Lists.Tests.{by-cases, and-true}
+use Rattle.rules.proofs.Order.Clearing.{named-starts}
+use Rattle.rules.proofs.Order.OnceEach.{once-order, once-length}
 use Rattle.walks.proofs.Joined.{or-assoc, or-with-false}
-use Rattle.places.specs.Added.{added, added-at, then, growth, stored, place-value}
+use Rattle.places.specs.Inner.Added.{added, added-at, then, growth, stored, place-value}
 use Rattle.places.specs.declared.Added.{Added}
 use Rattle.places.specs.declared.Added.the-variants.{Slot, Nothing}
 use Rattle.places.proofs.Values.{place-down}

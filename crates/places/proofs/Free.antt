@@ -15,10 +15,10 @@ use Rattle.rules.specs.Pointers.{place-offset, place-count, places, erased-valu
 use Rattle.rules.specs.Commands.{free-place}
 use Rattle.rules.specs.declared.SlotNo.{SlotNo}
 use Rattle.rules.specs.declared.Place.the-variants.{Live}
-use Rattle.rules.proofs.Tests.{by-cases, and-true}
+use Rattle.rules.proofs.Lists.Tests.{by-cases, and-true}
 use Rattle.walks.specs.Last.{last-from}
 use Rattle.walks.proofs.Last.{last-within, last-passes}
-use Rattle.places.specs.PlacesOf.{free-from, places-of, HasPlaces}
+use Rattle.places.specs.Inner.PlacesOf.{free-from, places-of, HasPlaces}
 use Rattle.places.specs.declared.Places.{Places}
 use Rattle.places.proofs.Values.{length-places}
 

@@ -6,11 +6,11 @@ use native.Mathlib.Omega.{arith}
 use lib.ListN.{length, take, drop, drop-of-length-le}
 use Rattle.rules.specs.Bytes.{little-endian, field, block-size}
 use Rattle.rules.specs.Pointers.{place-offset, place-count, values, places}
-use Rattle.rules.proofs.Words.{length-values}
-use Rattle.rules.proofs.PointerHeader.{places-fit}
+use Rattle.rules.proofs.Lists.Words.{length-values}
+use Rattle.rules.proofs.Pointers.PointerHeader.{places-fit}
 use Rattle.walks.proofs.Rows.{rows-turn}
-use Rattle.places.specs.StandingPointers.{StandingPointers}
-use Rattle.places.specs.Added.{place-value}
+use Rattle.places.specs.Inner.StandingPointers.{StandingPointers}
+use Rattle.places.specs.Inner.Added.{place-value}
 
 -- ---- by number
 

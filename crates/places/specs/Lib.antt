@@ -1,3 +1,1 @@
-pub mod StandingPointers
-pub mod PlacesOf
-pub mod Added
+pub mod Inner

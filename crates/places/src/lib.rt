@@ -12,10 +12,10 @@ ghost use lib.ListN.{length};
 ghost use Rattle.rules.specs.Bytes.{block, block-size};
 ghost use Rattle.rules.specs.Table.{starts};
 ghost use Rattle.rules.specs.Pointers.{place-offset, place-count, pointers-stand, all-ones, judged};
-ghost use Rattle.slots.specs.RowsOf.{HasRows};
-ghost use Rattle.places.specs.StandingPointers.{StandingPointers};
-ghost use Rattle.places.specs.PlacesOf.{free-from, places-of, HasPlaces};
-ghost use Rattle.places.specs.Added.{held-above, added-at, place-value};
+ghost use Rattle.slots.specs.Inner.RowsOf.{HasRows};
+ghost use Rattle.places.specs.Inner.StandingPointers.{StandingPointers};
+ghost use Rattle.places.specs.Inner.PlacesOf.{free-from, places-of, HasPlaces};
+ghost use Rattle.places.specs.Inner.Added.{held-above, added-at, place-value};
 
 // The five named fields of a block that stands: the magic, the header's size, the block's size, where the places
 // begin and how many there are.

@@ -10,9 +10,9 @@ ghost use mathlib.Core.List.{_++_};
 ghost use Prim.Native.Nat.{_+_, _≤_};
 ghost use lib.ListN.{length, drop};
 ghost use Rattle.rules.specs.Copies.{order-by};
-ghost use Rattle.slots.specs.RowsOf.{HasRows};
-ghost use Rattle.places.specs.PlacesOf.{HasPlaces};
-ghost use Rattle.places.specs.Added.{growth, stored};
+ghost use Rattle.slots.specs.Inner.RowsOf.{HasRows};
+ghost use Rattle.places.specs.Inner.PlacesOf.{HasPlaces};
+ghost use Rattle.places.specs.Inner.Added.{growth, stored};
 
 // How many slots the order has.
 pub fn order_length(t: &[u8], rows: Rows, p: &[u8], places: Places) -> usize

@@ -13,7 +13,7 @@ use Rattle.quarry.specs.Quarry.{quarry-setting, longer-length, longer-ta
 use Rattle.quarry.specs.Cases.{Row, holds, starred, unstarred, case-1, case-2, case-3, case-4, case-5, case-6, case-7, case-7-full, case-8, case-8-inside, case-9, case-10}
 use Rattle.rules.specs.declared.Step.{Step}
 use Rattle.quarry.proofs.Opened.{rules}
-use Rattle.rules.proofs.Programming.{fast-steps, fast-is-steps}
+use Rattle.rules.proofs.Steps.Programming.{fast-steps, fast-is-steps}
 
 -- ---- the rows, one computation each
 

@@ -17,7 +17,7 @@ use Rattle.rules.specs.Readers.{order-in, row-after, slot-row, facts, name-in}
 use Rattle.rules.specs.Steps.{programmed, wiped, steps, programs, rewrite, rewrite-pair}
 use Rattle.rules.specs.Commands.{pointer-bytes, filled, pointers-of, free-place, is-first, into-place, append-steps, giving, into-places, half-cleared-names, padded-name, put-name, name-allowed, name-free, rename-steps, repair-pair, enable, disable, rename}
 use Rattle.rules.specs.Cuts.{Progress, run, may-run, runs, half-done, dropped}
-use Rattle.rules.specs.Book.{Reading, was-refused, finished, cut, how-ended, renamed, booked}
+use Rattle.rules.specs.Book.{Reading, the-commands, was-refused, finished, cut, how-ended, renamed, booked}
 use Rattle.quarry.specs.Quarry.{quarry-setting, padded, entry-bytes, quarry-table, quarry-pointers}
 use Rattle.rules.specs.declared.Place.the-variants.{Erased, Live, Dead}
 use Rattle.rules.specs.declared.Step.{Step}
@@ -239,12 +239,12 @@ book o = record { table = table; boot = o }
 
 book-examples :
     (map how-ended ([] ∷ (Erase 0 ∷ []) ∷ []) ≡ finished ∷ cut ∷ [])
-    × (booked (enable 2) was-refused true (book (1 ∷ 0 ∷ [])) ≡ book (1 ∷ 0 ∷ []))
-    × (booked (enable 2) finished false (book (1 ∷ 0 ∷ [])) ≡ book (2 ∷ 1 ∷ 0 ∷ []))
-    × (booked (enable 0) cut true (book (1 ∷ 0 ∷ [])) ≡ book (0 ∷ 1 ∷ []))
-    × (booked (enable 0) cut false (book (1 ∷ 0 ∷ [])) ≡ book (1 ∷ 0 ∷ []))
-    × (booked (disable 1) finished false (book (1 ∷ 0 ∷ [])) ≡ book (0 ∷ []))
-    × (booked (rename 1 (80 ∷ 50 ∷ [])) finished true (book []) ≡ book [])
+    × (booked the-commands (enable 2) was-refused true (book (1 ∷ 0 ∷ [])) ≡ book (1 ∷ 0 ∷ []))
+    × (booked the-commands (enable 2) finished false (book (1 ∷ 0 ∷ [])) ≡ book (2 ∷ 1 ∷ 0 ∷ []))
+    × (booked the-commands (enable 0) cut true (book (1 ∷ 0 ∷ [])) ≡ book (0 ∷ 1 ∷ []))
+    × (booked the-commands (enable 0) cut false (book (1 ∷ 0 ∷ [])) ≡ book (1 ∷ 0 ∷ []))
+    × (booked the-commands (disable 1) finished false (book (1 ∷ 0 ∷ [])) ≡ book (0 ∷ []))
+    × (booked the-commands (rename 1 (80 ∷ 50 ∷ [])) finished true (book []) ≡ book [])
     × (name-in (entries (renamed table 1 (65 ∷ []))) 1 ≡ 65 ∷ [])
 unfolding rules table
 book-examples = (refl, refl, refl, refl, refl, refl, refl, refl)

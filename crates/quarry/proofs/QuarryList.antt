@@ -18,23 +18,23 @@ use Rattle.rules.specs.Copies.{pairs-agree}
 use Rattle.rules.specs.Steps.{step, steps}
 use Rattle.rules.specs.Commands.{Command, enable, disable, repair, start}
 use Rattle.rules.specs.Cuts.{run, runs, half-done, dropped}
-use Rattle.rules.specs.Book.{Item, Outcome, was-refused, finished, cut, how-ended, progress, left-by, flash-after, ended-by, outcome, names-bytes, name-bytes, Demand3}
+use Rattle.rules.specs.Book.{the-commands, Item, Outcome, was-refused, finished, cut, how-ended, progress, left-by, flash-after, ended-by, outcome, all-proper, name-bytes, Demand3}
 use Rattle.quarry.specs.Quarry.{quarry-setting, quarry}
 use Rattle.rules.specs.declared.Step.{Step}
-use Rattle.rules.proofs.Tests.{and-true}
+use Rattle.rules.proofs.Lists.Tests.{and-true}
 use Rattle.quarry.proofs.Opened.{rules}
-use Rattle.rules.proofs.Programming.{fast-steps, fast-is-steps}
-use Rattle.rules.proofs.Cutting.{under-way}
-use Rattle.rules.proofs.Theorem.{demand-3}
+use Rattle.rules.proofs.Steps.Programming.{fast-steps, fast-is-steps}
+use Rattle.rules.proofs.Steps.Cutting.{under-way}
+use Rattle.rules.proofs.Claim.Theorem.{demand-3}
 
 -- ---- the list
 
-abbrev item : Command → List ℕ → Item
+abbrev item : Command → List ℕ → Item the-commands
 item c budgets = record { command = c; budgets = budgets; wiped = 0 }
 
 -- disable 2 is refused; enable 2 is cut after 15 steps; repair finishes in two runs, and a third is refused 11; enable 2
 -- finishes under budgets 0 and 16
-abbrev pub a-list : List Item
+abbrev pub a-list : List (Item the-commands)
 a-list =
     item (disable 2) []
     ∷ item (enable 2) (7 ∷ 8 ∷ [])
@@ -61,8 +61,8 @@ quarry-agrees = refl
 pub quarry-list : Demand3 quarry-setting quarry a-list
 quarry-list = demand-3 quarry-setting quarry (bytes-by-test quarry quarry-bytes) quarry-agrees a-list no-names
   where
-    no-names : names-bytes a-list
-    no-names = unfold names-bytes name-bytes in (tt, (tt, (tt, (tt, tt))))
+    no-names : all-proper a-list
+    no-names = unfold all-proper name-bytes in (tt, (tt, (tt, (tt, tt))))
 
 -- ---- its outcomes: runs under several budgets are one run under their sum
 
@@ -87,37 +87,37 @@ at-once g (n ∷ ns) ss img =
 
 -- the outcomes of a list, with steps carried out by this function
 module _ (carried-out : ℕ → List Step → List ℕ → List ℕ) (s : Setting) where
-  abbrev left-at-once : Item → List ℕ → Answer (List Step) → List ℕ
+  abbrev left-at-once : Item the-commands → List ℕ → Answer (List Step) → List ℕ
   left-at-once i img (refused n) = img
   left-at-once i img (given ss) =
       half-done (s .granule) (i .wiped) (drop (total (i .budgets)) ss)
       (carried-out (s .granule) (take (total (i .budgets)) ss) img)
 
-  abbrev ended-at-once : Item → Answer (List Step) → Outcome
+  abbrev ended-at-once : Item the-commands → Answer (List Step) → Outcome
   ended-at-once i (refused n) = was-refused
   ended-at-once i (given ss) = how-ended (drop (total (i .budgets)) ss)
 
-  abbrev pub outcomes-at-once : List ℕ → List Item → List Outcome
+  abbrev pub outcomes-at-once : List ℕ → List (Item the-commands) → List Outcome
   outcomes-at-once img [] = []
   outcomes-at-once img (i ∷ is) =
       ended-at-once i (start s img (i .command)) ∷ outcomes-at-once (left-at-once i img (start s img (i .command))) is
 
-abbrev pub outcomes : Setting → List ℕ → List Item → List Outcome
+abbrev pub outcomes : Setting → List ℕ → List (Item the-commands) → List Outcome
 outcomes s img [] = []
 outcomes s img (i ∷ is) = outcome s img i ∷ outcomes s (flash-after s img i) is
 
 module _ (s : Setting) where
-  left-same : (i : Item) (img : List ℕ) (a : Answer (List Step)) → left-at-once steps s i img a ≡ left-by (s .granule) i img a
+  left-same : (i : Item the-commands) (img : List ℕ) (a : Answer (List Step)) → left-at-once steps s i img a ≡ left-by (s .granule) i img a
   unfolding left-by progress dropped
   left-same i img (refused n) = refl
   left-same i img (given ss) = rw (at-once (s .granule) (i .budgets) ss img)
 
-  ended-same : (i : Item) (img : List ℕ) (a : Answer (List Step)) → ended-at-once steps s i a ≡ ended-by (s .granule) i img a
+  ended-same : (i : Item the-commands) (img : List ℕ) (a : Answer (List Step)) → ended-at-once steps s i a ≡ ended-by (s .granule) i img a
   unfolding ended-by progress
   ended-same i img (refused n) = refl
   ended-same i img (given ss) = rw (at-once (s .granule) (i .budgets) ss img)
 
-  outcomes-same : (is : List Item) (img : List ℕ) → outcomes-at-once steps s img is ≡ outcomes s img is
+  outcomes-same : (is : List (Item the-commands)) (img : List ℕ) → outcomes-at-once steps s img is ≡ outcomes s img is
   unfolding flash-after outcome
   outcomes-same [] img = refl
   outcomes-same (i ∷ is) img =

@@ -13,10 +13,10 @@ use Rattle.rules.specs.Table.{entries-from, entry-count, entries, rows, slots}
 use Rattle.rules.specs.Copies.{view, order-by, boot-order}
 use Rattle.rules.specs.Readers.{order-in, order-list, table-of, table-part, slot-count, facts, slot-there, slot-facts, name-in, slot-name}
 use Rattle.rules.specs.declared.View.{View}
-use Rattle.rules.proofs.Invariant.{granule-holds-block}
+use Rattle.rules.proofs.Claim.Invariant.{granule-holds-block}
 use Rattle.walks.specs.Entries.{HasEntries}
 use Rattle.reading.specs.Answers.{viewed}
-use Rattle.reading.specs.Followed.{Followed}
+use Rattle.reading.specs.Inner.Followed.{Followed}
 use Rattle.reading.specs.declared.Viewed.{Viewed}
 use Rattle.reading.specs.declared.Viewed.the-variants.{At, Refused}
 use Rattle.reading.proofs.Seen.{Seen, seen, told-inside, table-followed, pointers-inside}

@@ -16,11 +16,11 @@ use Rattle.rules.specs.Table.{entries-from, entry-count, entries, name, name-ri
 use Rattle.rules.specs.Copies.{view}
 use Rattle.rules.specs.Readers.{table-of, table-part, slot-row, slot-entry, slot-there, slot-facts, name-in, slot-name}
 use Rattle.rules.specs.declared.View.{View}
-use Rattle.rules.proofs.Tests.{by-cases, and-true}
-use Rattle.rules.proofs.Combinators.{all-at}
-use Rattle.rules.proofs.Frame.{length-block}
-use Rattle.rules.proofs.Standing.{standing}
-use Rattle.rules.proofs.Renaming.{slot-row-found}
+use Rattle.rules.proofs.Lists.Tests.{by-cases, and-true}
+use Rattle.rules.proofs.Lists.Combinators.{all-at}
+use Rattle.rules.proofs.Steps.Frame.{length-block}
+use Rattle.rules.proofs.Table.Standing.{standing}
+use Rattle.rules.proofs.Table.Renaming.{slot-row-found}
 use Rattle.reading.specs.Answers.{is-refused}
 use Rattle.reading.proofs.Seen.{seen, table-followed, table-read-stands}
 

@@ -15,11 +15,11 @@ use Rattle.rules.specs.Table.{cpb0-of, cpb1-of, table-stands}
 use Rattle.rules.specs.Pointers.{pointers-stand}
 use Rattle.rules.specs.Copies.{copy-read, table-read, pointers-read, view-through, view}
 use Rattle.rules.specs.declared.View.{View}
-use Rattle.rules.proofs.Tests.{and-true, unless-given, bind-given, given-inj}
-use Rattle.rules.proofs.CopyRead.{which-address, WhichAddress}
-use Rattle.rules.proofs.Standing.{FourBlocks, standing, at-most-127, four-blocks}
-use Rattle.rules.proofs.Invariant.{granule-holds-block}
-use Rattle.reading.specs.Followed.{Followed}
+use Rattle.rules.proofs.Lists.Tests.{and-true, unless-given, bind-given, given-inj}
+use Rattle.rules.proofs.Copies.CopyRead.{which-address, WhichAddress}
+use Rattle.rules.proofs.Table.Standing.{FourBlocks, standing, at-most-127, four-blocks}
+use Rattle.rules.proofs.Claim.Invariant.{granule-holds-block}
+use Rattle.reading.specs.Inner.Followed.{Followed}
 
 -- ---- a copy that is read
 

@@ -11,9 +11,9 @@ use Rattle.rules.specs.Bytes.{up-to-zero}
 use Rattle.rules.specs.Table.{name, no-entry, rows, slots}
 use Rattle.rules.specs.Readers.{slot-row, slot-entry, facts, slot-there, name-in}
 use Rattle.rules.specs.declared.Facts.{Facts}
-use Rattle.rules.proofs.Tests.{by-cases}
-use Rattle.rules.proofs.Standing.{length-entries-from}
-use Rattle.rules.proofs.Renaming.{slot-row-found}
+use Rattle.rules.proofs.Lists.Tests.{by-cases}
+use Rattle.rules.proofs.Table.Standing.{length-entries-from}
+use Rattle.rules.proofs.Table.Renaming.{slot-row-found}
 use Rattle.walks.specs.Entries.{entry-at}
 use Rattle.walks.proofs.Entries.{entry-of-rows}
 

@@ -6,7 +6,7 @@ ghost use Prim.Native.Nat.{ℕ};
 ghost use Rattle.rules.specs.Numbers.{setting};
 ghost use Rattle.rules.specs.Copies.{view-through};
 ghost use Rattle.reading.specs.Answers.{viewed};
-ghost use Rattle.reading.specs.Followed.{Followed};
+ghost use Rattle.reading.specs.Inner.Followed.{Followed};
 
 // Where things are by the table at an address, whatever the granule: CPB0 if it stands, else CPB1.
 pub fn view_through(image: &[u8], spt0: usize, spt1: usize, at: usize) -> Viewed

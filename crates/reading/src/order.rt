@@ -9,9 +9,9 @@ ghost use Rattle.rules.specs.Table.{entry-count};
 ghost use Rattle.rules.specs.Copies.{order-by};
 ghost use Rattle.rules.specs.Readers.{order-in, row-after};
 ghost use Rattle.walks.specs.Entries.{HasEntries};
-ghost use Rattle.slots.specs.RowsOf.{HasRows};
-ghost use Rattle.places.specs.StandingPointers.{StandingPointers};
-ghost use Rattle.places.specs.PlacesOf.{HasPlaces};
+ghost use Rattle.slots.specs.Inner.RowsOf.{HasRows};
+ghost use Rattle.places.specs.Inner.StandingPointers.{StandingPointers};
+ghost use Rattle.places.specs.Inner.PlacesOf.{HasPlaces};
 ghost use Rattle.reading.specs.Answers.{listed, count-of};
 
 // The order listed into the row, or refused 13. Whether it fits is known before anything is stored.

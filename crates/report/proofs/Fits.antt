@@ -13,7 +13,7 @@ use Rattle.rules.specs.Table.{entry, entries-from, entries, name, no-entry}
 use Rattle.rules.specs.Copies.{view}
 use Rattle.rules.specs.Readers.{order-list, order-in, slot-facts, slot-name, name-in, slot-entry, slot-there, table-part}
 use Rattle.rules.specs.declared.Facts.{Facts}
-use Rattle.rules.proofs.Tests.{by-cases, unless-given, bind-given, given-inj}
+use Rattle.rules.proofs.Lists.Tests.{by-cases, unless-given, bind-given, given-inj}
 use Rattle.text.specs.Put.{Put}
 use Rattle.text.proofs.Puts.{put-whole}
 use Rattle.text.specs.Shown.{digits, decimal, shown}

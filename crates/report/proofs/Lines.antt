@@ -9,7 +9,7 @@ use lib.ListN.{length, take, drop, getD, length-append}
 use lib.Seq.{take-suc, take-at, length-take-le}
 use native.Mathlib.Nat.{add-comm}
 use Rattle.rules.specs.Answers.{Answer, refused, given, _>>=_}
-use Rattle.rules.proofs.Tests.{refused-given}
+use Rattle.rules.proofs.Lists.Tests.{refused-given}
 use Rattle.rules.specs.Readers.{order-list, row-after}
 use Rattle.reading.specs.Answers.{count-of}
 use Rattle.text.specs.Put.{Put}

@@ -30,11 +30,44 @@ read-by img v = record { table = block img (v .table); boot = boot-order img v }
 unfoldable pub reading : Setting → List ℕ → Answer Reading
 reading s img = view s img >>= λ v. given (read-by img v)
 
+-- ---- the change that a command stands for
+
+-- the table with the name in the entry of a slot; no change if it is the same up to the zero
+unfoldable pub renamed : List ℕ → ℕ → List ℕ → List ℕ
+renamed t k n = cond (has-already (entries t) k n) t (put-name t (slot-row (entries t) k) n)
+
+unfoldable pub changed : Command → Reading → Reading
+changed (enable k) r = record { table = r .table; boot = k ∷ without k (r .boot) }
+changed (disable k) r = record { table = r .table; boot = without k (r .boot) }
+changed (rename k n) r = record { table = renamed (r .table) k n; boot = r .boot }
+changed repair r = r
+
+-- the elements of a name are bytes
+unfoldable pub name-bytes : Command → Type 0
+name-bytes (enable k) = Unit {0}
+name-bytes (disable k) = Unit {0}
+name-bytes (rename k n) = Bytes n
+name-bytes repair = Unit {0}
+
+-- ---- a set of commands
+
+-- how a command is started (every refusal in its order, or the listed steps), the change that it stands for, and what
+-- holds of its arguments
+pub record CommandSet : Type 1 where
+  pub Command : Type 0
+  pub start : Setting → List ℕ → Command → Answer (List Step)
+  pub changed : Command → Reading → Reading
+  pub proper : Command → Type 0
+
+-- document 01's: enable, disable, rename and repair
+abbrev pub the-commands : CommandSet
+the-commands = record { Command = Command; start = start; changed = changed; proper = name-bytes }
+
 -- ---- items
 
 -- a command with its arguments, the budgets of the runs of its job, and how far a cut inside an erase got
-pub record Item : Type 0 where
-  pub command : Command
+pub record Item (C : CommandSet) : Type 0 where
+  pub command : C .Command
   pub budgets : List ℕ
   pub wiped : ℕ
 
@@ -46,43 +79,33 @@ unfoldable pub how-ended : List Step → Outcome
 how-ended [] = finished
 how-ended (s ∷ ss) = cut
 
-unfoldable pub progress : ℕ → Item → List ℕ → List Step → Progress
-progress g i img ss = runs g (i .budgets) (record { image = img; left = ss })
+module _ {C : CommandSet} where
+  unfoldable pub progress : ℕ → Item C → List ℕ → List Step → Progress
+  progress g i img ss = runs g (i .budgets) (record { image = img; left = ss })
 
-unfoldable pub left-by : ℕ → Item → List ℕ → Answer (List Step) → List ℕ
-left-by g i img (refused n) = img
-left-by g i img (given ss) = dropped g (i .wiped) (progress g i img ss)
+  unfoldable pub left-by : ℕ → Item C → List ℕ → Answer (List Step) → List ℕ
+  left-by g i img (refused n) = img
+  left-by g i img (given ss) = dropped g (i .wiped) (progress g i img ss)
 
--- the flash that an item leaves
-unfoldable pub flash-after : Setting → List ℕ → Item → List ℕ
-flash-after s img i = left-by (s .granule) i img (start s img (i .command))
+  -- the flash that an item leaves
+  unfoldable pub flash-after : Setting → List ℕ → Item C → List ℕ
+  flash-after s img i = left-by (s .granule) i img (C .start s img (i .command))
 
-unfoldable pub ended-by : ℕ → Item → List ℕ → Answer (List Step) → Outcome
-ended-by g i img (refused n) = was-refused
-ended-by g i img (given ss) = how-ended (progress g i img ss .left)
+  unfoldable pub ended-by : ℕ → Item C → List ℕ → Answer (List Step) → Outcome
+  ended-by g i img (refused n) = was-refused
+  ended-by g i img (given ss) = how-ended (progress g i img ss .left)
 
--- which of the three an item was
-unfoldable pub outcome : Setting → List ℕ → Item → Outcome
-outcome s img i = ended-by (s .granule) i img (start s img (i .command))
+  -- which of the three an item was
+  unfoldable pub outcome : Setting → List ℕ → Item C → Outcome
+  outcome s img i = ended-by (s .granule) i img (C .start s img (i .command))
 
 -- ---- the book
 
--- the table with the name in the entry of a slot; no change if it is the same up to the zero
-unfoldable pub renamed : List ℕ → ℕ → List ℕ → List ℕ
-renamed t k n = cond (has-already (entries t) k n) t (put-name t (slot-row (entries t) k) n)
-
--- the change that a command stands for
-unfoldable pub changed : Command → Reading → Reading
-changed (enable k) r = record { table = r .table; boot = k ∷ without k (r .boot) }
-changed (disable k) r = record { table = r .table; boot = without k (r .boot) }
-changed (rename k n) r = record { table = renamed (r .table) k n; boot = r .boot }
-changed repair r = r
-
 -- the book is fed the command and which of the three it was; a cut one made its change or none, by a choice
-unfoldable pub booked : Command → Outcome → Bool → Reading → Reading
-booked c was-refused choice r = r
-booked c finished choice r = changed c r
-booked c cut choice r = cond choice (changed c r) r
+unfoldable pub booked : (C : CommandSet) → C .Command → Outcome → Bool → Reading → Reading
+booked C c was-refused choice r = r
+booked C c finished choice r = C .changed c r
+booked C c cut choice r = cond choice (C .changed c r) r
 
 -- ---- the claim
 
@@ -112,28 +135,23 @@ pub record Holds (s : Setting) (t first img : List ℕ) (ended : Outcome) (r : R
   pub agrees : agree-if-finished s img ended
   pub untouched : Untouched s t first img
 
--- the same after every item of a list, with one choice for each, from a flash and a book's reading on
-module _ (s : Setting) (t first : List ℕ) where
-  unfoldable pub follows : List Item → List Bool → List ℕ → Reading → Type 0
-  follows [] choices img r = Unit {0}
-  follows (i ∷ is) [] img r = ⊥
-  follows (i ∷ is) (b ∷ bs) img r =
-      Holds s t first (flash-after s img i) (outcome s img i) (booked (i .command) (outcome s img i) b r)
-      × follows is bs (flash-after s img i) (booked (i .command) (outcome s img i) b r)
+module _ {C : CommandSet} where
+  -- the same after every item of a list, with one choice for each, from a flash and a book's reading on
+  module _ (s : Setting) (t first : List ℕ) where
+    unfoldable pub follows : List (Item C) → List Bool → List ℕ → Reading → Type 0
+    follows [] choices img r = Unit {0}
+    follows (i ∷ is) [] img r = ⊥
+    follows (i ∷ is) (b ∷ bs) img r =
+        Holds s t first (flash-after s img i) (outcome s img i) (booked C (i .command) (outcome s img i) b r)
+        × follows is bs (flash-after s img i) (booked C (i .command) (outcome s img i) b r)
 
--- the elements of the names among the items are bytes
-unfoldable pub name-bytes : Command → Type 0
-name-bytes (enable k) = Unit {0}
-name-bytes (disable k) = Unit {0}
-name-bytes (rename k n) = Bytes n
-name-bytes repair = Unit {0}
+  -- what holds of the arguments of each item's command
+  unfoldable pub all-proper : List (Item C) → Type 0
+  all-proper [] = Unit {0}
+  all-proper (i ∷ is) = C .proper (i .command) × all-proper is
 
-unfoldable pub names-bytes : List Item → Type 0
-names-bytes [] = Unit {0}
-names-bytes (i ∷ is) = name-bytes (i .command) × names-bytes is
-
--- document 01's claim about a list of items from this flash: it has a reading, and there is one choice for each item
--- with which the book follows the flash through the whole list
-unfoldable pub Demand3 : Setting → List ℕ → List Item → Type 0
-Demand3 s img is =
-    (r : Reading) × (reading s img ≡ given r) × ((choices : List Bool) × follows s (r .table) img is choices img r)
+  -- the claim about a list of items from this flash: it has a reading, and there is one choice for each item with which
+  -- the book follows the flash through the whole list
+  unfoldable pub Demand3 : Setting → List ℕ → List (Item C) → Type 0
+  Demand3 s img is =
+      (r : Reading) × (reading s img ≡ given r) × ((choices : List Bool) × follows s (r .table) img is choices img r)

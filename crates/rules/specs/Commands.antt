@@ -41,14 +41,16 @@ reorder-steps c0 c1 starts p o = rewrite-pair c0 c1 (filled p (pointers-of start
 
 -- ---- enable
 
--- one place more below: it counts if it, or a place above it, is not erased
+-- how many places are left of a list without the erased ones at its end, when one more comes below: none if all are
+-- erased, else one more
 unfoldable pub below : Bool → ℕ → ℕ
 below true zero = 0
 below false zero = 1
 below true (suc n) = suc (suc n)
 below false (suc n) = suc (suc n)
 
--- "the lowest place such that it and all above are erased"; the count of places where the last is not erased
+-- "the lowest place such that it and all above are erased": as many places as are left without the erased ones at the
+-- end, which is the count of places where the last is not erased
 unfoldable pub free-place : List ℕ → List ℕ → ℕ
 free-place starts [] = 0
 free-place starts (v ∷ vs) = below (is-erased (judged starts v)) (free-place starts vs)

@@ -43,13 +43,13 @@ table-part s img = table-of img (view s img)
 unfoldable pub slot-count : Setting → List ℕ → Answer ℕ
 slot-count s img = view s img >>= λ v. given (length (slots (entries (block img (v .table)))))
 
--- the entry number of a slot; past the last slot, the number of entries
+-- the entry number of the k-th of `slots`; past the last slot, the number of entries
 unfoldable pub slot-row : List Entry → ℕ → ℕ
 slot-row [] k = 0
 slot-row (e ∷ es) zero = cond (is-slot e) 0 (suc (slot-row es zero))
 slot-row (e ∷ es) (suc k) = cond (is-slot e) (suc (slot-row es k)) (suc (slot-row es (suc k)))
 
--- the entry of a slot
+-- the k-th of `slots`, by its entry number
 unfoldable pub slot-entry : List Entry → ℕ → Entry
 slot-entry es k = getD es (slot-row es k) no-entry
 

@@ -42,23 +42,29 @@ entries t = rows (entry-count t) t
 unfoldable pub name : Entry → List ℕ
 name e = up-to-zero (e .name-field)
 
--- ---- the six names
+-- ---- the six names, letter by letter
 
+-- B O O T _ I N F O
 unfoldable pub boot-info : List ℕ
 boot-info = 66 ∷ 79 ∷ 79 ∷ 84 ∷ 95 ∷ 73 ∷ 78 ∷ 70 ∷ 79 ∷ []
 
+-- F A C T O R Y _ I M A G E
 unfoldable pub factory-image : List ℕ
 factory-image = 70 ∷ 65 ∷ 67 ∷ 84 ∷ 79 ∷ 82 ∷ 89 ∷ 95 ∷ 73 ∷ 77 ∷ 65 ∷ 71 ∷ 69 ∷ []
 
+-- S P T 0
 unfoldable pub spt0-name : List ℕ
 spt0-name = 83 ∷ 80 ∷ 84 ∷ 48 ∷ []
 
+-- S P T 1
 unfoldable pub spt1-name : List ℕ
 spt1-name = 83 ∷ 80 ∷ 84 ∷ 49 ∷ []
 
+-- C P B 0
 unfoldable pub cpb0-name : List ℕ
 cpb0-name = 67 ∷ 80 ∷ 66 ∷ 48 ∷ []
 
+-- C P B 1
 unfoldable pub cpb1-name : List ℕ
 cpb1-name = 67 ∷ 80 ∷ 66 ∷ 49 ∷ []
 
@@ -76,7 +82,8 @@ is-fixed-name n = any (same n) six-names
 unfoldable pub no-entry : Entry
 no-entry = record { name-field = []; start = 0; size = 0; flags = 0 }
 
--- the first entry of that name
+-- the first entry of that name. Where no entry has it, `no-entry` starts at 0, so that rule 9 below holds of a table
+-- without BOOT_INFO; such a table breaks rule 8
 unfoldable pub named : List ℕ → List Entry → Entry
 named n es = first (has-name n) no-entry es
 

@@ -9,7 +9,7 @@ use lib.Dec.{leb}
 use borrow.Author.Tests.{leb-true}
 use Rattle.rules.specs.Lists.{same}
 use Rattle.rules.specs.declared.SlotNo.{SlotNo}
-use Rattle.rules.proofs.Tests.{by-cases, clash, and-true, same-true, same-of}
+use Rattle.rules.proofs.Lists.Tests.{by-cases, clash, and-true, same-true, same-of}
 use Rattle.script.specs.Lines.{takes, takes-slot, slot-of}
 use Rattle.script.specs.declared.numbers.Row.{Row}
 use Rattle.script.specs.declared.Line.{Line}

@@ -7,7 +7,7 @@ use lib.Dec.{eqb}
 use lib.ListN.{length, getD, set}
 use lib.Seq.{getD-set-same, getD-set-other}
 use borrow.Author.Tests.{le-leb, lt-leb, eqb-true, eqb-false}
-use Rattle.rules.proofs.Tests.{by-cases}
+use Rattle.rules.proofs.Lists.Tests.{by-cases}
 use Rattle.script.specs.Hex.{hex-value}
 
 module _ (b : ℕ) where

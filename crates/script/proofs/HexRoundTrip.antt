@@ -7,7 +7,7 @@ use lib.Dec.{ltb}
 use lib.ListN.{length, getD}
 use borrow.Author.Tests.{lt-leb, ltb-true, ltb-false}
 use Rattle.rules.specs.Bytes.{Bytes}
-use Rattle.rules.proofs.Tests.{by-cases}
+use Rattle.rules.proofs.Lists.Tests.{by-cases}
 use Rattle.script.specs.Hex.{hex-digit, pair, hex, hex-value, byte-at}
 use Rattle.script.proofs.HexDigits.{value-decimal, value-letter}
 

@@ -7,7 +7,7 @@ use lib.Dec.{eqb}
 use lib.ListN.{length, getD, take, drop, length-drop, drop-of-length-le}
 use lib.Seq.{split-at, take-all, drop-cons}
 use borrow.Author.Tests.{eq-eqb, ne-eqb, eqb-true, eqb-false}
-use Rattle.rules.proofs.Tests.{by-cases}
+use Rattle.rules.proofs.Lists.Tests.{by-cases}
 use Rattle.script.specs.Words.{before, space, first-word, later-words, last-of, last-word, Last-word-begins}
 
 -- ---- the bytes before one that stops them

@@ -11,14 +11,14 @@ use lib.Seq.{take-all}
 use Rattle.rules.specs.Lists.{keep}
 use Rattle.rules.specs.Table.{Entry, entry-count, rows, entries, is-slot, slots}
 use Rattle.rules.specs.Readers.{slot-row}
-use Rattle.rules.proofs.Tests.{by-cases}
-use Rattle.rules.proofs.Combinators.{kept-no-more}
-use Rattle.rules.proofs.Standing.{length-entries-from}
+use Rattle.rules.proofs.Lists.Tests.{by-cases}
+use Rattle.rules.proofs.Lists.Combinators.{kept-no-more}
+use Rattle.rules.proofs.Table.Standing.{length-entries-from}
 use Rattle.walks.specs.Last.{last-from}
 use Rattle.walks.proofs.Entries.{take-entries}
 use Rattle.walks.proofs.Last.{last-within, last-passes, kept-from}
 use Rattle.walks.proofs.Slots.{slot-row-here, slot-row-goes}
-use Rattle.slots.specs.RowsOf.{slots-from, slots-before, rows-of, HasRows}
+use Rattle.slots.specs.Inner.RowsOf.{slots-from, slots-before, rows-of, HasRows}
 use Rattle.slots.specs.declared.Rows.{Rows}
 use Rattle.rules.specs.declared.EntryNo.{EntryNo}
 

@@ -12,8 +12,8 @@ ghost use Rattle.rules.specs.Readers.{slot-row};
 ghost use Rattle.walks.specs.Find.{find};
 ghost use Rattle.walks.specs.Last.{last-from};
 ghost use Rattle.walks.specs.Entries.{entry-at, most-entries, HasEntries, slot-from};
-ghost use Rattle.slots.specs.Initials.{initials};
-ghost use Rattle.slots.specs.RowsOf.{slots-before, rows-of, HasRows};
+ghost use Rattle.slots.specs.Inner.Initials.{initials};
+ghost use Rattle.slots.specs.Inner.RowsOf.{slots-before, rows-of, HasRows};
 
 // The rows of a table: how many entries count; the entry from which on all of them are slots; how many slots come before
 // it. A table has its slots last as a rule, so that most slot numbers follow from entry numbers without a count.

@@ -8,9 +8,9 @@ use lib.ListN.{drop}
 use borrow.Author.Tests.{le-leb, leb-true}
 use Rattle.rules.specs.Lists.{all, pairwise}
 use Rattle.rules.specs.Table.{Entry, ranges-apart}
-use Rattle.rules.proofs.Tests.{and-true, both-true}
-use Rattle.rules.proofs.Combinators.{all-weaker}
-use Rattle.table.specs.Ascending.{neighbours, ends-before}
+use Rattle.rules.proofs.Lists.Tests.{and-true, both-true}
+use Rattle.rules.proofs.Lists.Combinators.{all-weaker}
+use Rattle.table.specs.Inner.Ascending.{neighbours, ends-before}
 
 -- ---- a loop over neighbours: `xs` is what is left to walk
 

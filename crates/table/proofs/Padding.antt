@@ -13,11 +13,11 @@ use Rattle.rules.specs.Lists.{same, all, pairwise}
 use Rattle.rules.specs.Bytes.{Bytes, little-endian, field, up-to-zero}
 use Rattle.rules.specs.Table.{Entry, entry, name, names-differ}
 use Rattle.rules.specs.Commands.{padded-name}
-use Rattle.rules.proofs.Tests.{by-cases, clash, and-true, same-true, same-of}
-use Rattle.rules.proofs.ByteLists.{bytes-take, bytes-drop}
+use Rattle.rules.proofs.Lists.Tests.{by-cases, clash, and-true, same-true, same-of}
+use Rattle.rules.proofs.Lists.ByteLists.{bytes-take, bytes-drop}
 use Rattle.walks.specs.Entries.{entry-at}
 use Rattle.walks.proofs.Joined.{and-assoc}
-use Rattle.table.specs.Padding.{is-zero, padded, fields-differ}
+use Rattle.table.specs.Inner.Padding.{is-zero, padded, fields-differ}
 
 -- ---- the zeros after a name
 

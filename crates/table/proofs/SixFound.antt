@@ -10,11 +10,11 @@ use Rattle.rules.specs.Numbers.{Setting}
 use Rattle.rules.specs.Table.{rows, six-names, on-granules}
 use Rattle.rules.specs.Table.{boot-info, factory-image, spt0-name, spt1-name, cpb0-name, cpb1-name}
 use Rattle.rules.specs.Table.{six-named, boot-info-at-0, tables-as-told, blocks-on-granules}
-use Rattle.rules.proofs.Tests.{and-true}
+use Rattle.rules.proofs.Lists.Tests.{and-true}
 use Rattle.walks.specs.Entries.{entry-at}
 use Rattle.walks.proofs.Find.{any-named, named-found}
 use Rattle.walks.proofs.Joined.{all-four, all-six}
-use Rattle.table.specs.Six.{Found, Below, below, six-right}
+use Rattle.table.specs.Inner.Six.{Found, Below, below, six-right}
 use Rattle.table.specs.declared.SixEntries.{SixEntries}
 
 module _ (n : ℕ) (six : SixEntries) where

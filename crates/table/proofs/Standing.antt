@@ -10,10 +10,10 @@ use Rattle.rules.specs.Numbers.{Setting}
 use Rattle.rules.specs.Table.{Entry, header-right, count-right, entry-count, entries, entries-stand, table-stands}
 use Rattle.rules.specs.Table.{name-right, names-differ, range-aligned, range-inside, ranges-apart}
 use Rattle.rules.specs.Table.{six-named, boot-info-at-0, tables-as-told, blocks-on-granules}
-use Rattle.rules.proofs.Tests.{and-true}
-use Rattle.rules.proofs.Standing.{at-most-127}
+use Rattle.rules.proofs.Lists.Tests.{and-true}
+use Rattle.rules.proofs.Table.Standing.{at-most-127}
 use Rattle.walks.specs.Entries.{most-entries}
-use Rattle.table.specs.Six.{six-right}
+use Rattle.table.specs.Inner.Six.{six-right}
 
 joined : (before a b c d : Bool) → before && (a && b && c && d) ≡ before && a && b && c && d
 joined true a b c d = refl

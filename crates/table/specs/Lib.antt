@@ -1,4 +1,1 @@
-pub mod Rules
-pub mod Ascending
-pub mod Padding
-pub mod Six
+pub mod Inner

@@ -11,7 +11,7 @@ ghost use Rattle.rules.specs.Lists.{all, pairwise};
 ghost use Rattle.rules.specs.Bytes.{block-size};
 ghost use Rattle.rules.specs.Table.{rows};
 ghost use Rattle.walks.specs.Entries.{entry-at, most-entries, HasEntries};
-ghost use Rattle.table.specs.Rules.{keeps, both-keep};
+ghost use Rattle.table.specs.Inner.Rules.{keeps, both-keep};
 
 fn entry_keeps(rule: Rule, table: &[u8], e: EntryNo) -> bool
     requires { ⌜ (length (now table) ≡ block-size) × (e .0 < most-entries) ⌝ }

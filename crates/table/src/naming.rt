@@ -10,7 +10,7 @@ ghost use Rattle.rules.specs.Lists.{all, pairwise};
 ghost use Rattle.rules.specs.Bytes.{block-size};
 ghost use Rattle.rules.specs.Table.{rows, name-right, names-differ};
 ghost use Rattle.walks.specs.Entries.{entry-at, most-entries, HasEntries};
-ghost use Rattle.table.specs.Padding.{is-zero, padded, fields-differ};
+ghost use Rattle.table.specs.Inner.Padding.{is-zero, padded, fields-differ};
 
 // Rule 3: the name has at least one byte before a zero within the 16.
 pub fn name_is_right(table: &[u8], e: EntryNo) -> bool

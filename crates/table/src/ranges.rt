@@ -10,7 +10,7 @@ ghost use Rattle.rules.specs.Lists.{pairwise};
 ghost use Rattle.rules.specs.Bytes.{block-size};
 ghost use Rattle.rules.specs.Table.{rows, range-aligned, range-inside, ranges-apart};
 ghost use Rattle.walks.specs.Entries.{entry-at, most-entries, HasEntries};
-ghost use Rattle.table.specs.Ascending.{neighbours, ends-before};
+ghost use Rattle.table.specs.Inner.Ascending.{neighbours, ends-before};
 
 // The unit of every start and length.
 const UNIT: u64 = fields::BLOCK_SIZE as u64;

@@ -10,7 +10,7 @@ ghost use Rattle.rules.specs.Bytes.{block-size};
 ghost use Rattle.rules.specs.Numbers.{setting};
 ghost use Rattle.rules.specs.Table.{rows, on-granules};
 ghost use Rattle.walks.specs.Entries.{entry-at, most-entries, HasEntries};
-ghost use Rattle.table.specs.Six.{Found, Below, below, six-right};
+ghost use Rattle.table.specs.Inner.Six.{Found, Below, below, six-right};
 
 // The first n entries keep rules 8 to 11: where one of the six is not among them there is nothing to judge.
 pub fn six_keep(table: &[u8], n: usize, granule: u64, spt0: u64, spt1: u64) -> bool

@@ -8,7 +8,7 @@ use lib.Dec.{leb}
 use lib.ListN.{length, take, drop, getD, set, length-append}
 use lib.Seq.{sets, length-sets, set-out, take-suc, take-all, take-at, sets-eq, length-take-le}
 use borrow.Author.Tests.{leb-true, leb-false}
-use Rattle.rules.proofs.Tests.{by-cases}
+use Rattle.rules.proofs.Lists.Tests.{by-cases}
 use Rattle.text.specs.Put.{Put}
 
 pub put-nothing : (out : List ℕ) (at : ℕ) → Put out at [] out at

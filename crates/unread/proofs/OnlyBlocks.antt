@@ -20,8 +20,8 @@ use Rattle.rules.specs.Readers.{order-list, table-of, table-part, slot-count, s
 use Rattle.rules.specs.Commands.{Command, enable, disable, rename, repair, repair-pair, repair-steps, job, start}
 use Rattle.rules.specs.Book.{read-by, reading}
 use Rattle.rules.specs.declared.View.{View}
-use Rattle.rules.proofs.Tests.{given-inj, bind-given, unless-given}
-use Rattle.rules.proofs.CopyRead.{WhichAddress, which-address, copy-read-same}
+use Rattle.rules.proofs.Lists.Tests.{given-inj, bind-given, unless-given}
+use Rattle.rules.proofs.Copies.CopyRead.{WhichAddress, which-address, copy-read-same}
 use Rattle.unread.specs.SameBlocks.{SameBlocks}
 
 -- what is asked further need agree only on what is given

@@ -21,11 +21,11 @@ use Rattle.rules.specs.Copies.{copy-read, table-read, view-through, view, pair-
 use Rattle.rules.specs.Readers.{order-list, table-part}
 use Rattle.rules.specs.Book.{reading}
 use Rattle.rules.specs.declared.View.{View}
-use Rattle.rules.proofs.Tests.{clash, and-true, both-true, or-true}
-use Rattle.rules.proofs.CopyRead.{agree-equal, equal-agree}
-use Rattle.rules.proofs.Combinators.{all-weaker}
-use Rattle.rules.proofs.Standing.{standing, stands}
-use Rattle.rules.proofs.Viewing.{Viewed, viewed}
+use Rattle.rules.proofs.Lists.Tests.{clash, and-true, both-true, or-true}
+use Rattle.rules.proofs.Copies.CopyRead.{agree-equal, equal-agree}
+use Rattle.rules.proofs.Lists.Combinators.{all-weaker}
+use Rattle.rules.proofs.Table.Standing.{standing, stands}
+use Rattle.rules.proofs.Claim.Viewing.{Viewed, viewed}
 use Rattle.unread.specs.SmallestGranule.{smallest}
 
 -- ---- a multiple of a granule is a multiple of 4,096

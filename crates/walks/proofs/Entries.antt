@@ -7,7 +7,7 @@ use native.Mathlib.Omega.{arith}
 use lib.ListN.{getD, take, drop, drop-of-length-le}
 use lib.Seq.{getD-drop}
 use Rattle.rules.specs.Table.{Entry, entry, entries-from, rows}
-use Rattle.rules.proofs.Standing.{length-entries-from}
+use Rattle.rules.proofs.Table.Standing.{length-entries-from}
 use Rattle.walks.specs.Entries.{entry-at}
 use Rattle.walks.proofs.Rows.{rows-turn}
 

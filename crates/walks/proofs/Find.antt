@@ -7,8 +7,8 @@ use lib.Dec.{ltb, leb·suc-suc, leb·zero}
 use lib.ListN.{length, getD, drop, List·getD-eq-default}
 use Rattle.rules.specs.Lists.{any, first}
 use Rattle.rules.specs.Table.{rows, has-name, named, no-entry}
-use Rattle.rules.proofs.Standing.{length-entries-from}
-use Rattle.rules.proofs.Tests.{by-cases}
+use Rattle.rules.proofs.Table.Standing.{length-entries-from}
+use Rattle.rules.proofs.Lists.Tests.{by-cases}
 use Rattle.walks.specs.Find.{find}
 use Rattle.walks.specs.Entries.{entry-at}
 use Rattle.walks.proofs.Entries.{entry-of-rows}

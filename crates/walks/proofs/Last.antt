@@ -8,7 +8,7 @@ use native.Mathlib.Omega.{arith}
 use lib.ListN.{length, take, drop}
 use Rattle.rules.specs.Lists.{all, keep}
 use Rattle.rules.specs.Commands.{below}
-use Rattle.rules.proofs.Tests.{by-cases, and-true}
+use Rattle.rules.proofs.Lists.Tests.{by-cases, and-true}
 use Rattle.walks.specs.Last.{last-from}
 
 below-more : (t : Bool) (n : ℕ) → below t (suc n) ≡ suc (suc n)

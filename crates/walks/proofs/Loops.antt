@@ -8,7 +8,7 @@ use native.Mathlib.Omega.{arith}
 use lib.ListN.{length}
 use borrow.Author.Tests.{eq-eqb, ne-eqb}
 use Rattle.rules.specs.Lists.{all, pairwise, keep, member}
-use Rattle.rules.proofs.Tests.{by-cases}
+use Rattle.rules.proofs.Lists.Tests.{by-cases}
 use Rattle.walks.specs.Find.{find}
 
 module _ {A : Type 0} {xs : List A} where

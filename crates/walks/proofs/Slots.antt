@@ -13,8 +13,8 @@ use Rattle.rules.specs.Lists.{keep}
 use Rattle.rules.specs.Table.{Entry, rows, is-slot, slots, slot-starts}
 use Rattle.rules.specs.Pointers.{one-more, slot-at}
 use Rattle.rules.specs.Readers.{slot-row}
-use Rattle.rules.proofs.Standing.{length-entries-from}
-use Rattle.rules.proofs.Tests.{by-cases, clash}
+use Rattle.rules.proofs.Table.Standing.{length-entries-from}
+use Rattle.rules.proofs.Lists.Tests.{by-cases, clash}
 use Rattle.walks.specs.Find.{find}
 use Rattle.walks.specs.Entries.{slot-from}
 use Rattle.walks.proofs.Joined.{and-with-false}

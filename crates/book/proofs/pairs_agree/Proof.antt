@@ -1,5 +1,5 @@
 -- `pairs_agree` tells whether both pairs agree: with a view, by their bytes alone. Assumes nothing.
-use Rattle.commands.specs.Asked.{copies-equal}
+use Rattle.commands.specs.Inner.Asked.{copies-equal}
 use Rattle.book.specs.Kept.{setting-of}
 use Rattle.book.proofs.ReadBack.{not-viewed, where-blocks-are, agree-by-copies}
 use borrow.Author.Needs.{needs}

@@ -3,7 +3,7 @@ use mathlib.Core.Path.{_≡_}
 use native.Mathlib.Omega.{arith}
 use borrow.Author.Needs.{needs}
 use Rattle.jobs.specs.Jobs.{counted}
-use Rattle.jobs.specs.Parts.{countable}
+use Rattle.jobs.specs.Inner.Parts.{countable}
 use Rattle.jobs.proofs.ListedSteps.{listed-bound}
 use Rattle.jobs.proofs.Running.{refused-steps}
 use Rattle.jobs.proofs.Counting.{counts-none, counts-some}

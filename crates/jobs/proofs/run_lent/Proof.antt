@@ -4,9 +4,9 @@ use native.Mathlib.Omega.{arith}
 use lib.Dec.{eqb}
 use lib.ListN.{length}
 use borrow.Author.Needs.{needs}
-use Rattle.rules.proofs.Tests.{and-true}
+use Rattle.rules.proofs.Lists.Tests.{and-true}
 use Rattle.jobs.specs.Jobs.{lent, steps-of}
-use Rattle.jobs.specs.Parts.{chosen}
+use Rattle.jobs.specs.Inner.Parts.{chosen}
 use Rattle.jobs.specs.declared.Job.{Job}
 use Rattle.jobs.proofs.Running.{Arrays, one-fails, both-hold, stays, goes, finished-11, outside-12, inside-given}
 use Rattle.jobs.proofs.run_lent.Statement.{statement}

@@ -3,7 +3,7 @@
 use mathlib.Core.Path.{sym, _∙_}
 use borrow.Author.Needs.{needs}
 use Rattle.rules.specs.Table.{starts}
-use Rattle.places.specs.Added.{added-at, added}
+use Rattle.places.specs.Inner.Added.{added-at, added}
 use Rattle.places.proofs.Free.{live-used}
 use Rattle.places.proofs.added_by.Statement.{statement}
 use Rattle.places.proofs.added_by.Tie as tie

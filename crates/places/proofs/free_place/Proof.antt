@@ -10,7 +10,7 @@ use Rattle.rules.specs.Lists.{all}
 use Rattle.rules.specs.Pointers.{place-count, places, all-ones}
 use Rattle.walks.proofs.Loops.{all-over}
 use Rattle.walks.proofs.Last.{last-none, last-goes, last-found}
-use Rattle.places.specs.PlacesOf.{free-from}
+use Rattle.places.specs.Inner.PlacesOf.{free-from}
 use Rattle.places.proofs.Values.{place-down, place-over}
 use borrow.Author.Needs.{needs}
 use Rattle.places.proofs.free_place.Statement.{statement}

@@ -6,7 +6,7 @@ use native.Mathlib.Omega.{arith}
 use lib.ListN.{drop}
 use Rattle.rules.specs.Lists.{member}
 use Rattle.rules.specs.Pointers.{places}
-use Rattle.rules.proofs.PointerHeader.{layout}
+use Rattle.rules.proofs.Pointers.PointerHeader.{layout}
 use Rattle.walks.proofs.Loops.{member-here, member-goes}
 use Rattle.places.proofs.Values.{place-turn}
 use Rattle.places.proofs.Free.{count-is, free-places, not-held}

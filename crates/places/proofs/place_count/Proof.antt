@@ -1,6 +1,6 @@
 -- `places::place_count` is the count of a block that stands. Assumes nothing.
 use mathlib.Core.Path.{sym}
-use Rattle.rules.proofs.PointerHeader.{layout}
+use Rattle.rules.proofs.Pointers.PointerHeader.{layout}
 use Rattle.places.proofs.place_count.Statement.{statement}
 use Rattle.places.proofs.place_count.Tie as tie
 

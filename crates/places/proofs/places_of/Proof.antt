@@ -1,6 +1,6 @@
 -- `places::places_of` has the places of a block that stands, part by part. Assumes nothing.
 use borrow.Author.Needs.{needs}
-use Rattle.places.specs.PlacesOf.{places-of}
+use Rattle.places.specs.Inner.PlacesOf.{places-of}
 use Rattle.places.proofs.places_of.Statement.{statement}
 use Rattle.places.proofs.places_of.Tie as tie
 

@@ -7,7 +7,7 @@ use lib.ListN.{length}
 use borrow.Author.Needs.{needs}
 use Rattle.rules.specs.Bytes.{block-size}
 use Rattle.rules.specs.Numbers.{setting, length-right, granule-right, addresses-right}
-use Rattle.rules.proofs.Invariant.{granule-holds-block}
+use Rattle.rules.proofs.Claim.Invariant.{granule-holds-block}
 use Rattle.walks.proofs.Joined.{failed, passed}
 use Rattle.reading.specs.Answers.{viewed}
 use Rattle.reading.proofs.Views.{refused-1, refused-2, refused-3, refused-4, through-spt0, through-spt1}

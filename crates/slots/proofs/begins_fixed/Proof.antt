@@ -3,7 +3,7 @@ use native.Mathlib.Omega.{arith}
 use lib.ListN.{List·getD-eq-default}
 use Rattle.rules.specs.Lists.{member}
 use Rattle.walks.proofs.Joined.{or-assoc, or-with-false}
-use Rattle.slots.specs.Initials.{initials}
+use Rattle.slots.specs.Inner.Initials.{initials}
 use borrow.Author.Needs.{needs}
 use Rattle.slots.proofs.begins_fixed.Statement.{statement}
 use Rattle.slots.proofs.begins_fixed.Tie as tie

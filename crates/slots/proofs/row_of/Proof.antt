@@ -6,7 +6,7 @@ use lib.Dec.{leb, ltb}
 use borrow.Author.Tests.{leb-true, ltb-true}
 use Rattle.rules.specs.Table.{entries}
 use Rattle.rules.specs.Readers.{slot-row}
-use Rattle.rules.proofs.Tests.{and-true}
+use Rattle.rules.proofs.Lists.Tests.{and-true}
 use Rattle.slots.proofs.RowsOf.{counted-rows, last-row}
 use borrow.Author.Needs.{needs}
 use Rattle.slots.proofs.row_of.Statement.{statement}

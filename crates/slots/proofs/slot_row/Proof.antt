@@ -8,7 +8,7 @@ use lib.Dec.{eqb}
 use lib.ListN.{drop}
 use borrow.Author.Tests.{eqb-true}
 use borrow.Author.Needs.{needs}
-use Rattle.rules.proofs.Tests.{and-true}
+use Rattle.rules.proofs.Lists.Tests.{and-true}
 use Rattle.rules.specs.Table.{rows}
 use Rattle.rules.specs.Readers.{slot-row}
 use Rattle.walks.proofs.Entries.{entries-turn, entries-end}

@@ -2,7 +2,7 @@
 use borrow.Author.Needs.{needs}
 use Rattle.rules.specs.Numbers.{setting}
 use Rattle.rules.specs.Table.{rows}
-use Rattle.table.specs.Rules.{keeps}
+use Rattle.table.specs.Inner.Rules.{keeps}
 use Rattle.table.proofs.Standing.{rules-3-to-11}
 use Rattle.table.proofs.entries_stand.Statement.{statement}
 use Rattle.table.proofs.entries_stand.Tie as tie

@@ -6,7 +6,7 @@ use lib.ListN.{length, take, drop, length-take, length-drop}
 use lib.Seq.{take-all}
 use borrow.Author.Needs.{needs}
 use Rattle.rules.specs.Bytes.{block-size}
-use Rattle.rules.proofs.PointerHeader.{places-fit}
+use Rattle.rules.proofs.Pointers.PointerHeader.{places-fit}
 use Rattle.places.proofs.Free.{offset-is, count-is}
 use Rattle.blocks.proofs.Putting.{emptied-block}
 use Rattle.blocks.proofs.packing.emptied.Statement.{statement}

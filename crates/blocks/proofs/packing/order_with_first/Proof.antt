@@ -10,7 +10,7 @@ use Rattle.rules.specs.Table.{starts}
 use Rattle.rules.specs.Copies.{order-by}
 use Rattle.rules.specs.Pointers.{place-count, places, order}
 use Rattle.rules.specs.Commands.{pointers-of}
-use Rattle.rules.proofs.PointerHeader.{places-fit}
+use Rattle.rules.proofs.Pointers.PointerHeader.{places-fit}
 use Rattle.slots.proofs.RowsOf.{count-is}
 use Rattle.places.proofs.Free.{offset-is}
 use Rattle.blocks.specs.declared.Packed.{Packed}

@@ -8,7 +8,7 @@ use borrow.Author.Needs.{needs}
 use Rattle.rules.specs.Bytes.{block-size}
 use Rattle.rules.specs.Table.{starts}
 use Rattle.rules.specs.Commands.{filled}
-use Rattle.rules.proofs.PointerHeader.{places-fit}
+use Rattle.rules.proofs.Pointers.PointerHeader.{places-fit}
 use Rattle.places.proofs.Free.{offset-is}
 use Rattle.blocks.proofs.Putting.{pointer-put-after}
 use Rattle.blocks.proofs.OrderPacked.{put-from, none-put, left-out-turn, put-turn}

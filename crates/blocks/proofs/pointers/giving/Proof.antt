@@ -9,7 +9,7 @@ use borrow.Author.Needs.{needs}
 use Rattle.rules.specs.Table.{starts}
 use Rattle.rules.specs.Pointers.{places}
 use Rattle.rules.specs.Commands.{giving}
-use Rattle.rules.proofs.PointerHeader.{layout}
+use Rattle.rules.proofs.Pointers.PointerHeader.{layout}
 use Rattle.places.proofs.Free.{count-is, free-places}
 use Rattle.jobs.specs.Jobs.{place-room}
 use Rattle.blocks.specs.Made.{number-bytes, places-noted}

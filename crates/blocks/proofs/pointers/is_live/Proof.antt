@@ -1,6 +1,6 @@
 -- `is_live` tells whether a place is live. Assumes nothing.
 use borrow.Author.Needs.{needs}
-use Rattle.blocks.specs.Walked.{is-live}
+use Rattle.blocks.specs.Inner.Walked.{is-live}
 use Rattle.blocks.proofs.pointers.is_live.Statement.{statement}
 use Rattle.blocks.proofs.pointers.is_live.Tie as tie
 

@@ -2,7 +2,7 @@
 use mathlib.Core.Path.{refl}
 use lib.ListN.{length-set}
 use borrow.Author.Needs.{needs}
-use Rattle.blocks.specs.Walked.{noted}
+use Rattle.blocks.specs.Inner.Walked.{noted}
 use Rattle.blocks.proofs.pointers.note.Statement.{statement}
 use Rattle.blocks.proofs.pointers.note.Tie as tie
 

@@ -5,7 +5,7 @@ use native.Mathlib.Omega.{arith}
 use borrow.Author.Needs.{needs}
 use Rattle.rules.specs.Readers.{slot-entry}
 use Rattle.rules.specs.Table.{entry-count, entries, starts, no-entry}
-use Rattle.rules.proofs.Renaming.{slot-row-found}
+use Rattle.rules.proofs.Table.Renaming.{slot-row-found}
 use Rattle.walks.proofs.Entries.{entry-of-rows}
 use Rattle.slots.proofs.RowsOf.{length-entries, count-is}
 use Rattle.blocks.proofs.Naming.{start-of-slot}

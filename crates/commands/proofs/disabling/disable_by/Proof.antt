@@ -8,10 +8,10 @@ use borrow.Author.Needs.{needs}
 use Rattle.rules.specs.Numbers.{setting}
 use Rattle.rules.specs.Table.{entry-count}
 use Rattle.rules.specs.Commands.{disable}
-use Rattle.blocks.specs.Walked.{Readable, places-giving}
+use Rattle.blocks.specs.Inner.Walked.{Readable, places-giving}
 use Rattle.blocks.specs.Made.{places-noted}
 use Rattle.blocks.specs.declared.Noted.{Noted}
-use Rattle.commands.specs.Asked.{Located}
+use Rattle.commands.specs.Inner.Asked.{Located}
 use Rattle.commands.proofs.Locating.{located, has-entries, stands, readable}
 use Rattle.commands.proofs.Asking.{returns-refused, disable-refused, disable-refused-8, disable-started, slot-counted}
 use Rattle.commands.proofs.disabling.disable_by.Statement.{statement}

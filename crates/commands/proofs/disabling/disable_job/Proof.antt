@@ -5,7 +5,7 @@ use borrow.Author.Needs.{needs}
 use Rattle.rules.specs.Table.{starts}
 use Rattle.rules.specs.Copies.{order-by}
 use Rattle.rules.specs.Commands.{half-cleared-names}
-use Rattle.rules.proofs.PointerHeader.{places-fit}
+use Rattle.rules.proofs.Pointers.PointerHeader.{places-fit}
 use Rattle.slots.proofs.RowsOf.{counted-rows}
 use Rattle.places.proofs.Free.{offset-is}
 use Rattle.blocks.specs.declared.Packed.{Packed}

@@ -5,7 +5,7 @@ use borrow.Author.Needs.{needs}
 use Rattle.rules.specs.Numbers.{setting}
 use Rattle.rules.specs.Table.{entry-count}
 use Rattle.rules.specs.Commands.{enable}
-use Rattle.commands.specs.Asked.{Located}
+use Rattle.commands.specs.Inner.Asked.{Located}
 use Rattle.commands.proofs.Locating.{located, has-entries, stands, readable}
 use Rattle.commands.proofs.Asking.{returns-refused, enable-refused, enable-started, slot-counted}
 use Rattle.commands.proofs.enabling.enable_by.Statement.{statement}

@@ -6,8 +6,8 @@ use Rattle.rules.specs.Table.{starts}
 use Rattle.rules.specs.Pointers.{places}
 use Rattle.rules.specs.Copies.{order-by}
 use Rattle.rules.specs.Commands.{free-place}
-use Rattle.rules.proofs.PointerHeader.{layout, places-fit}
-use Rattle.places.specs.PlacesOf.{free-from}
+use Rattle.rules.proofs.Pointers.PointerHeader.{layout, places-fit}
+use Rattle.places.specs.Inner.PlacesOf.{free-from}
 use Rattle.places.proofs.Free.{free-by-value, offset-is, count-is, free-is}
 use Rattle.commands.proofs.CommandJobs.{enable-none, enable-place, enable-rewrite}
 use Rattle.commands.proofs.enabling.enable_job.Statement.{statement}

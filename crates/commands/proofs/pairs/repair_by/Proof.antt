@@ -4,7 +4,7 @@ use native.Mathlib.Omega.{arith}
 use borrow.Author.Needs.{needs}
 use Rattle.rules.specs.Numbers.{setting}
 use Rattle.commands.specs.JobFor.{repair-job}
-use Rattle.commands.specs.Asked.{Located}
+use Rattle.commands.specs.Inner.Asked.{Located}
 use Rattle.commands.proofs.Locating.{located}
 use Rattle.commands.proofs.Asking.{repair-started}
 use Rattle.commands.proofs.pairs.repair_by.Statement.{statement}

@@ -4,7 +4,7 @@ use mathlib.Core.Bool.{_&&_}
 use native.Mathlib.Omega.{arith}
 use borrow.Author.Tests.{not-true, not-false}
 use borrow.Author.Needs.{needs}
-use Rattle.commands.specs.Asked.{outcome, copies-equal}
+use Rattle.commands.specs.Inner.Asked.{outcome, copies-equal}
 use Rattle.commands.proofs.Asking.{copies-differ, no-such-slot, slot-found}
 use Rattle.commands.proofs.Locating.{has-entries}
 use Rattle.commands.proofs.refusals.ask_slot.Statement.{statement}

@@ -8,11 +8,11 @@ use Rattle.rules.specs.Numbers.{setting}
 use Rattle.rules.specs.Bytes.{block}
 use Rattle.rules.specs.Table.{entry-count}
 use Rattle.rules.specs.Commands.{rename}
-use Rattle.rules.proofs.Renaming.{allowed}
+use Rattle.rules.proofs.Table.Renaming.{allowed}
 use Rattle.walks.specs.Entries.{most-entries}
 use Rattle.walks.proofs.Joined.{failed, passed}
 use Rattle.blocks.proofs.Naming.{whole-name}
-use Rattle.commands.specs.Asked.{Located}
+use Rattle.commands.specs.Inner.Asked.{Located}
 use Rattle.commands.proofs.Locating.{located, has-entries}
 use Rattle.commands.proofs.CommandJobs.{rename-by-row}
 use Rattle.commands.proofs.Asking.{returns-refused, rename-refused, rename-refused-9, rename-refused-10, rename-started, row-below}

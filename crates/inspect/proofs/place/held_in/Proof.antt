@@ -6,7 +6,7 @@ use borrow.Author.Tests.{lt-ltb, le-ltb}
 use borrow.Author.Needs.{needs}
 use Rattle.rules.specs.Answers.{unless}
 use Rattle.rules.specs.Pointers.{place-count}
-use Rattle.slots.specs.RowsOf.{rows-of}
+use Rattle.slots.specs.Inner.RowsOf.{rows-of}
 use Rattle.places.proofs.Free.{count-is}
 use Rattle.inspect.specs.Places.{held, held-in, holding}
 use Rattle.inspect.proofs.Numbered.{value-found}

@@ -4,7 +4,7 @@ use borrow.Author.Needs.{needs}
 use Rattle.rules.specs.Bytes.{block}
 use Rattle.rules.specs.Answers.{given}
 use Rattle.rules.specs.Pointers.{place-count}
-use Rattle.places.specs.PlacesOf.{places-of}
+use Rattle.places.specs.Inner.PlacesOf.{places-of}
 use Rattle.inspect.specs.Totals.{totalled}
 use Rattle.inspect.specs.Places.{place-total}
 use Rattle.inspect.proofs.Inside.{of-view, no-view, pointers-within, has-pointers}

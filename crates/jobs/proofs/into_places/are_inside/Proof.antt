@@ -8,7 +8,7 @@ use borrow.Author.Needs.{needs}
 use Rattle.jobs.proofs.PlaceNumbers.{number-cons, numbers-over}
 use Rattle.jobs.proofs.PlaceSteps.{inside-cons, inside-none}
 use Rattle.jobs.specs.Jobs.{place-room, meant}
-use Rattle.jobs.specs.Parts.{places-inside}
+use Rattle.jobs.specs.Inner.Parts.{places-inside}
 use Rattle.jobs.proofs.into_places.are_inside.Statement.{statement}
 use Rattle.jobs.proofs.into_places.are_inside.Tie as tie
 

@@ -5,11 +5,11 @@ use Prim.Native.Nat.{ℕ, _+_, _-_, _≤_, min}
 use native.Mathlib.Omega.{arith}
 use lib.ListN.{length, drop}
 use borrow.Author.Needs.{needs}
-use Rattle.rules.proofs.Tests.{and-true}
+use Rattle.rules.proofs.Lists.Tests.{and-true}
 use Rattle.rules.specs.Steps.{steps}
 use Rattle.rules.specs.Commands.{into-places}
 use Rattle.jobs.specs.Jobs.{place-room, meant}
-use Rattle.jobs.specs.Parts.{chosen, beyond, programs-inside, places-inside}
+use Rattle.jobs.specs.Inner.Parts.{chosen, beyond, programs-inside, places-inside}
 use Rattle.jobs.proofs.PlaceNumbers.{number-cons, numbers-over}
 use Rattle.jobs.proofs.PlaceSteps.{inside-cons, places-step, steps-none}
 use Rattle.jobs.proofs.into_places.do_places.Statement.{statement}

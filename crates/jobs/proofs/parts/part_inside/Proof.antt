@@ -1,7 +1,7 @@
 -- `part_inside` is the test of a part's steps from one on. Assumes nothing.
 use mathlib.Core.Path.{_∙_}
 use borrow.Author.Needs.{needs}
-use Rattle.jobs.specs.Parts.{part-inside}
+use Rattle.jobs.specs.Inner.Parts.{part-inside}
 use Rattle.jobs.proofs.parts.part_inside.Statement.{statement}
 use Rattle.jobs.proofs.parts.part_inside.Tie as tie
 

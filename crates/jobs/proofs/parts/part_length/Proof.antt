@@ -1,6 +1,6 @@
 -- `part_length` is the number of a part's steps. Assumes nothing.
 use borrow.Author.Needs.{needs}
-use Rattle.jobs.specs.Parts.{part-length}
+use Rattle.jobs.specs.Inner.Parts.{part-length}
 use Rattle.jobs.proofs.parts.part_length.Statement.{statement}
 use Rattle.jobs.proofs.parts.part_length.Tie as tie
 

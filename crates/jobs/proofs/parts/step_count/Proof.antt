@@ -1,7 +1,7 @@
 -- `step_count` is the number of listed steps. Assumes nothing.
 use native.Mathlib.Omega.{arith}
 use borrow.Author.Needs.{needs}
-use Rattle.jobs.specs.Parts.{listed-length}
+use Rattle.jobs.specs.Inner.Parts.{listed-length}
 use Rattle.jobs.proofs.parts.step_count.Statement.{statement}
 use Rattle.jobs.proofs.parts.step_count.Tie as tie
 

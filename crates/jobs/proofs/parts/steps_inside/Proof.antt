@@ -1,6 +1,6 @@
 -- `steps_inside` is the test of the listed steps from one on. Assumes nothing.
 use borrow.Author.Needs.{needs}
-use Rattle.jobs.specs.Parts.{listed-inside}
+use Rattle.jobs.specs.Inner.Parts.{listed-inside}
 use Rattle.jobs.proofs.parts.steps_inside.Statement.{statement}
 use Rattle.jobs.proofs.parts.steps_inside.Tie as tie
 

@@ -1,6 +1,6 @@
 -- `are_inside` is the test of the program steps from one on. Assumes nothing.
 use borrow.Author.Needs.{needs}
-use Rattle.jobs.specs.Parts.{programs-inside}
+use Rattle.jobs.specs.Inner.Parts.{programs-inside}
 use Rattle.jobs.proofs.programs.are_inside.Statement.{statement}
 use Rattle.jobs.proofs.programs.are_inside.Tie as tie
 

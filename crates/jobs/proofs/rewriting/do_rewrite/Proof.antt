@@ -5,7 +5,7 @@ use native.Mathlib.Omega.{arith}
 use lib.ListN.{length, take, drop, length-take, length-drop}
 use lib.Seq.{take-all}
 use borrow.Author.Needs.{needs}
-use Rattle.jobs.specs.Parts.{beyond, rest-size}
+use Rattle.jobs.specs.Inner.Parts.{beyond, rest-size}
 use Rattle.jobs.proofs.RewriteSteps.{rewrite-parts, rewrite-done}
 use Rattle.jobs.proofs.rewriting.do_rewrite.Statement.{statement}
 use Rattle.jobs.proofs.rewriting.do_rewrite.Tie as tie

@@ -1,6 +1,6 @@
 -- `is_inside` is the test of a rewrite's steps from one on. Assumes nothing.
 use borrow.Author.Needs.{needs}
-use Rattle.jobs.specs.Parts.{rewrite-inside, erase-inside}
+use Rattle.jobs.specs.Inner.Parts.{rewrite-inside, erase-inside}
 use Rattle.jobs.proofs.rewriting.is_inside.Statement.{statement}
 use Rattle.jobs.proofs.rewriting.is_inside.Tie as tie
 

@@ -1,6 +1,6 @@
 -- `beyond` is what of a window lies beyond so many steps. Assumes nothing.
 use borrow.Author.Needs.{needs}
-use Rattle.jobs.specs.Parts.{beyond}
+use Rattle.jobs.specs.Inner.Parts.{beyond}
 use Rattle.jobs.proofs.windows.beyond.Statement.{statement}
 use Rattle.jobs.proofs.windows.beyond.Tie as tie
 

@@ -1,7 +1,7 @@
 -- `places::order::growth_of` is by how much the order grows. Assumes nothing.
 use native.Mathlib.Omega.{arith}
 use borrow.Author.Needs.{needs}
-use Rattle.places.specs.Added.{growth}
+use Rattle.places.specs.Inner.Added.{growth}
 use Rattle.places.proofs.order.growth_of.Statement.{statement}
 use Rattle.places.proofs.order.growth_of.Tie as tie
 

@@ -7,7 +7,7 @@ use lib.ListN.{length}
 use borrow.Author.Needs.{needs}
 use Rattle.rules.specs.Table.{starts, entries}
 use Rattle.rules.specs.Copies.{order-by}
-use Rattle.rules.proofs.PointerHeader.{layout}
+use Rattle.rules.proofs.Pointers.PointerHeader.{layout}
 use Rattle.places.proofs.Free.{count-is, free-places}
 use Rattle.places.proofs.BootOrder.{MetFrom, none-met, met-down, places-left, all-met}
 use Rattle.places.proofs.order.order_length.Statement.{statement}

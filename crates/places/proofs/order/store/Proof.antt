@@ -2,7 +2,7 @@
 use mathlib.Core.Path.{ap}
 use native.Mathlib.Omega.{arith}
 use borrow.Author.Needs.{needs}
-use Rattle.places.specs.Added.{growth, stored}
+use Rattle.places.specs.Inner.Added.{growth, stored}
 use Rattle.places.proofs.order.store.Statement.{statement}
 use Rattle.places.proofs.order.store.Tie as tie
 

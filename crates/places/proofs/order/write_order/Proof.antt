@@ -8,7 +8,7 @@ use borrow.Author.Needs.{needs}
 use Rattle.rules.specs.Table.{starts, entries}
 use Rattle.rules.specs.Pointers.{places, order}
 use Rattle.rules.specs.Copies.{order-by}
-use Rattle.rules.proofs.PointerHeader.{layout}
+use Rattle.rules.proofs.Pointers.PointerHeader.{layout}
 use Rattle.places.proofs.Free.{none-above, count-is, free-places}
 use Rattle.places.proofs.BootOrder.{in-front, order-grows, MetFrom, none-met, met-down, row-down, places-left, all-met}
 use Rattle.places.proofs.order.write_order.Statement.{statement}

@@ -5,9 +5,9 @@ use Rattle.rules.specs.Answers.{unless, _>>=_}
 use Rattle.rules.specs.Readers.{order-in, row-after}
 use Rattle.walks.proofs.Joined.{failed, passed}
 use Rattle.rules.specs.Copies.{order-by}
-use Rattle.slots.specs.RowsOf.{HasRows}
+use Rattle.slots.specs.Inner.RowsOf.{HasRows}
 use Rattle.slots.proofs.RowsOf.{count-of-rows}
-use Rattle.places.specs.PlacesOf.{HasPlaces}
+use Rattle.places.specs.Inner.PlacesOf.{HasPlaces}
 use Rattle.reading.specs.Answers.{listed, count-of}
 use borrow.Author.Needs.{needs}
 use Rattle.reading.proofs.order.list_order.Statement.{statement}

@@ -10,7 +10,7 @@ use Rattle.rules.specs.Table.{rows}
 use Rattle.walks.proofs.Joined.{failed, passed}
 use Rattle.walks.proofs.Entries.{entries-turn, entries-end}
 use Rattle.walks.proofs.Loops.{all-over, all-fails, all-goes}
-use Rattle.table.specs.Rules.{keeps}
+use Rattle.table.specs.Inner.Rules.{keeps}
 use Rattle.table.proofs.each.all_keep.Statement.{statement}
 use Rattle.table.proofs.each.all_keep.Tie as tie
 

@@ -1,6 +1,6 @@
 -- `table::each::entry_keeps` meets its contract, rule by rule. Assumes nothing.
 use borrow.Author.Needs.{needs}
-use Rattle.table.specs.Rules.{keeps}
+use Rattle.table.specs.Inner.Rules.{keeps}
 use Rattle.table.proofs.each.entry_keeps.Statement.{statement}
 use Rattle.table.proofs.each.entry_keeps.Tie as tie
 

@@ -11,7 +11,7 @@ use Rattle.walks.specs.Entries.{entry-at}
 use Rattle.walks.proofs.Joined.{failed, passed}
 use Rattle.walks.proofs.Entries.{entries-turn, entries-end}
 use Rattle.walks.proofs.Loops.{all-over, all-fails, all-goes}
-use Rattle.table.specs.Rules.{both-keep}
+use Rattle.table.specs.Inner.Rules.{both-keep}
 use Rattle.table.proofs.each.later_keep.Statement.{statement}
 use Rattle.table.proofs.each.later_keep.Tie as tie
 

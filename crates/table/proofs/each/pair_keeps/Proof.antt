@@ -1,6 +1,6 @@
 -- `table::each::pair_keeps` meets its contract, rule by rule. Assumes nothing.
 use borrow.Author.Needs.{needs}
-use Rattle.table.specs.Rules.{both-keep}
+use Rattle.table.specs.Inner.Rules.{both-keep}
 use Rattle.table.proofs.each.pair_keeps.Statement.{statement}
 use Rattle.table.proofs.each.pair_keeps.Tie as tie
 

@@ -10,7 +10,7 @@ use Rattle.rules.specs.Table.{rows}
 use Rattle.walks.proofs.Joined.{failed, passed}
 use Rattle.walks.proofs.Entries.{entries-turn, entries-end}
 use Rattle.walks.proofs.Loops.{pairwise-over, pairwise-fails, pairwise-goes}
-use Rattle.table.specs.Rules.{both-keep}
+use Rattle.table.specs.Inner.Rules.{both-keep}
 use Rattle.table.proofs.each.pairs_keep.Statement.{statement}
 use Rattle.table.proofs.each.pairs_keep.Tie as tie
 

@@ -2,7 +2,7 @@
 use mathlib.Core.Path.{sym, _∙_}
 use borrow.Author.Needs.{needs}
 use Rattle.rules.specs.Table.{rows}
-use Rattle.table.specs.Rules.{keeps, both-keep}
+use Rattle.table.specs.Inner.Rules.{keeps, both-keep}
 use Rattle.table.proofs.Padding.{all-differ-by-fields}
 use Rattle.table.proofs.naming.all_differ.Statement.{statement}
 use Rattle.table.proofs.naming.all_differ.Tie as tie

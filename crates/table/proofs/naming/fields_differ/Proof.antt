@@ -7,7 +7,7 @@ use borrow.Author.Tests.{eq-eqb, ne-eqb}
 use Rattle.rules.specs.Lists.{same}
 use Rattle.rules.specs.Bytes.{field}
 use Rattle.walks.specs.Entries.{entry-at}
-use Rattle.table.specs.Padding.{fields-differ}
+use Rattle.table.specs.Inner.Padding.{fields-differ}
 use Rattle.table.proofs.Padding.{same-by-words, name-bytes}
 use Rattle.table.proofs.naming.fields_differ.Statement.{statement}
 use Rattle.table.proofs.naming.fields_differ.Tie as tie

@@ -10,7 +10,7 @@ use borrow.Author.Needs.{needs}
 use borrow.Author.Tests.{eq-eqb, ne-eqb}
 use Rattle.rules.specs.Lists.{all}
 use Rattle.walks.proofs.Loops.{all-over, all-fails, all-goes}
-use Rattle.table.specs.Padding.{is-zero}
+use Rattle.table.specs.Inner.Padding.{is-zero}
 use Rattle.table.proofs.naming.is_zero_from.Statement.{statement}
 use Rattle.table.proofs.naming.is_zero_from.Tie as tie
 

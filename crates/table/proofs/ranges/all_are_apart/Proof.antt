@@ -2,7 +2,7 @@
 use mathlib.Core.Path.{sym, _∙_}
 use borrow.Author.Needs.{needs}
 use Rattle.rules.specs.Table.{rows}
-use Rattle.table.specs.Rules.{both-keep}
+use Rattle.table.specs.Inner.Rules.{both-keep}
 use Rattle.table.proofs.Ascending.{ascending-apart}
 use Rattle.table.proofs.ranges.all_are_apart.Statement.{statement}
 use Rattle.table.proofs.ranges.all_are_apart.Tie as tie

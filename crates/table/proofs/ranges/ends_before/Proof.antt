@@ -1,6 +1,6 @@
 -- `table::ranges::ends_before` meets its contract. Assumes nothing.
 use borrow.Author.Needs.{needs}
-use Rattle.table.specs.Ascending.{ends-before}
+use Rattle.table.specs.Inner.Ascending.{ends-before}
 use Rattle.table.proofs.ranges.ends_before.Statement.{statement}
 use Rattle.table.proofs.ranges.ends_before.Tie as tie
 

@@ -1,7 +1,7 @@
 -- `table::ranges::ranges_are_apart` meets its contract. Assumes nothing.
 use borrow.Author.Needs.{needs}
 use Rattle.rules.specs.Table.{ranges-apart}
-use Rattle.table.specs.Ascending.{ends-before}
+use Rattle.table.specs.Inner.Ascending.{ends-before}
 use Rattle.table.proofs.ranges.ranges_are_apart.Statement.{statement}
 use Rattle.table.proofs.ranges.ranges_are_apart.Tie as tie
 

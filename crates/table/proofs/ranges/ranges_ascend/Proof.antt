@@ -9,7 +9,7 @@ use borrow.Author.Needs.{needs}
 use Rattle.rules.specs.Table.{rows}
 use Rattle.walks.proofs.Joined.{failed, passed}
 use Rattle.walks.proofs.Entries.{entries-turn, entries-end}
-use Rattle.table.specs.Ascending.{neighbours, ends-before}
+use Rattle.table.specs.Inner.Ascending.{neighbours, ends-before}
 use Rattle.table.proofs.Ascending.{neighbours-over, neighbours-fail, neighbours-go}
 use Rattle.table.proofs.ranges.ranges_ascend.Statement.{statement}
 use Rattle.table.proofs.ranges.ranges_ascend.Tie as tie

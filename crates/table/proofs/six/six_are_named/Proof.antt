@@ -1,6 +1,6 @@
 -- `table::six::six_are_named` meets its contract. Assumes nothing.
 use mathlib.Core.Path.{refl}
-use Rattle.table.specs.Six.{below}
+use Rattle.table.specs.Inner.Six.{below}
 use Rattle.table.proofs.six.six_are_named.Statement.{statement}
 use Rattle.table.proofs.six.six_are_named.Tie as tie
 

@@ -5,7 +5,7 @@ use borrow.Author.Needs.{needs}
 use Rattle.rules.specs.Numbers.{setting}
 use Rattle.walks.specs.Entries.{most-entries}
 use Rattle.walks.proofs.Joined.{failed, passed}
-use Rattle.table.specs.Six.{Below}
+use Rattle.table.specs.Inner.Six.{Below}
 use Rattle.table.proofs.SixFound.{all-below, below-more, not-all-named, rules-by-number}
 use Rattle.table.proofs.six.six_keep.Statement.{statement}
 use Rattle.table.proofs.six.six_keep.Tie as tie

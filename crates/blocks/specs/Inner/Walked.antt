@@ -1,0 +1,43 @@
+-- What only the contracts of inner functions cite: the walks over the places of a pointer block. Assumes nothing.
+use mathlib.Core.Bool.{Bool, true, false}
+use mathlib.Core.List.{List}
+use Prim.Native.Nat.{ℕ, _+_, _*_, _/_, _%_, _≤_, _<_}
+use lib.ListN.{length, getD, set}
+use Rattle.rules.specs.Table.{starts}
+use Rattle.rules.specs.Pointers.{places}
+use Rattle.rules.specs.Commands.{filled, giving}
+use Rattle.rules.specs.declared.Place.{Place}
+use Rattle.rules.specs.declared.Place.the-variants.{Erased, Live, Dead}
+use Rattle.walks.specs.Entries.{most-entries}
+use Rattle.slots.specs.Inner.RowsOf.{HasRows}
+use Rattle.slots.specs.declared.Rows.{Rows}
+use Rattle.places.specs.Inner.PlacesOf.{HasPlaces}
+use Rattle.places.specs.declared.Places.{Places}
+use Rattle.blocks.specs.declared.Packed.{Packed}
+
+-- a table with these rows, and a pointer block with these places
+pub record Readable (t : List ℕ) (r : Rows) (p : List ℕ) (k : Places) : Type 0 where
+  pub table : HasRows t r
+  pub pointers : HasPlaces p k
+
+-- the places of a pointer block that give a slot, by a table
+abbrev pub places-giving : List ℕ → List ℕ → ℕ → List ℕ
+places-giving t p slot = giving (starts t) slot 0 (places p)
+
+-- an order of slots, of which a table has so many
+pub record SlotNumbers (count : ℕ) (o : List ℕ) : Type 0 where
+  pub few : length o ≤ most-entries
+  pub below : (i : ℕ) → i < length o → getD o i 0 < count
+
+unfoldable pub is-live : Place → Bool
+is-live Erased = false
+is-live Dead = false
+is-live (Live s) = true
+
+-- a place number as the i-th of a row of numbers of two bytes each
+unfoldable pub noted : ℕ → ℕ → List ℕ → List ℕ
+noted i k bs = set (set bs (2 * i) (k % 256)) (2 * i + 1) (k / 256)
+
+-- a pointer block with these pointers from the lowest place up
+abbrev pub packed : List ℕ → List ℕ → Packed
+packed p vs = record { block = filled p vs; count = length vs }

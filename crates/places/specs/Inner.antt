@@ -1,0 +1,3 @@
+pub mod StandingPointers
+pub mod PlacesOf
+pub mod Added

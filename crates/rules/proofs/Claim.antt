@@ -1,0 +1,10 @@
+pub mod Theorem
+pub mod EveryList
+pub mod EveryJob
+pub mod OneItem
+pub mod JobRight
+pub mod StartedJob
+pub mod Invariant
+pub mod Viewing
+pub mod Bridge
+pub mod Corollaries

@@ -1,0 +1,3 @@
+pub mod CopyRead
+pub mod PairCuts
+pub mod RepairJob

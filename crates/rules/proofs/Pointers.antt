@@ -1,0 +1,9 @@
+pub mod PointerHeader
+pub mod Placing
+pub mod InPlace
+pub mod Filling
+pub mod HalfCleared
+pub mod PlacesCleared
+pub mod PointerPair
+pub mod PointersInPlace
+pub mod PointerJobs

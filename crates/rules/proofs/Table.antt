@@ -1,0 +1,6 @@
+pub mod Standing
+pub mod SlotStarts
+pub mod PutName
+pub mod Renaming
+pub mod TableJobs
+pub mod RenameJob

@@ -1,0 +1,4 @@
+pub mod Ascending
+pub mod Padding
+pub mod Rules
+pub mod Six
