@@ -235,7 +235,9 @@ class Interrupted(Bench):
             for name in os.listdir(self.folder):
                 os.unlink(self.path(name))
             self.put("image", self.old)
-            yield number, self.calls(number, action, *words)[1]
+            reached, status = self.calls(number, action, *words)
+            if reached >= number:  # how often a program asks for memory differs from run to run by a call
+                yield number, status
 
     def assert_old_or_new(self, number):
         now = self.get("image")
