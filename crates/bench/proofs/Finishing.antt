@@ -11,7 +11,8 @@ use lib.Seq.{take-length}
 use Rattle.rules.specs.Lists.{all}
 use Rattle.rules.specs.Bytes.{Bytes}
 use Rattle.rules.specs.Answers.{Answer, refused, given, unless}
-use Rattle.rules.specs.Numbers.{Setting}
+use Rattle.rules.specs.declared.Setting.{Setting}
+use Rattle.rules.specs.declared.Refusal.{Refusal}
 use Rattle.rules.specs.Commands.{Command, start}
 use Rattle.rules.specs.Steps.{steps}
 use Rattle.rules.specs.Cuts.{Progress, run, runs}
@@ -24,12 +25,12 @@ use Rattle.jobs.specs.declared.Job.{Job}
 use Rattle.jobs.specs.declared.Did.{Did}
 use Rattle.jobs.specs.declared.Ran.{Ran}
 use Rattle.blocks.specs.Made.{Lists}
-use Rattle.commands.specs.Begins.{begins}
+use Rattle.commands.specs.Begins.{command-of, begins}
 use Rattle.commands.specs.declared.Begun.{Begun}
+use Rattle.commands.specs.declared.Command.{Command as Asked}
+use Rattle.commands.specs.declared.Command.the-variants.{Enable, Disable, Rename, Repair}
 use Rattle.commands.specs.declared.Outcome.the-variants.{Started, Refused as Not-started}
-use Rattle.book.specs.Kept.{new-name, command-of}
-use Rattle.book.specs.declared.Command.{Command as Named}
-use Rattle.book.specs.declared.Command.the-variants.{Enable, Disable, Rename, Repair}
+use Rattle.book.specs.Kept.{new-name}
 use Rattle.bench.specs.Finished.{finished, left-finished, told, done-by, left-by, done-after, left-after, done-begun, left-begun}
 use Rattle.bench.specs.declared.Done.{Done}
 use Rattle.bench.specs.declared.Done.the-variants.{Refused}
@@ -46,7 +47,7 @@ name-of-bytes : Bytes new-name
 unfolding all
 name-of-bytes = bytes-by-test new-name refl
 
-pub names-of-bytes : (c : Named) → name-bytes (command-of c)
+pub names-of-bytes : (c : Asked) → name-bytes (command-of c new-name)
 unfolding name-bytes command-of
 names-of-bytes (Enable k) = tt
 names-of-bytes (Disable k) = tt
@@ -68,9 +69,10 @@ ran-all (suc n) j img after r d (m, p) some e = (
 )
 
 module _ (b : Begun) (img : List ℕ) where
-  pub start-refused : (n : ℕ) → b .answer ≡ Not-started n → (Refused n ≡ done-begun b img) × (img ≡ left-begun b img)
+  pub start-refused : (why : Refusal) → b .answer ≡ Not-started why
+      → (Refused why ≡ done-begun b img) × (img ≡ left-begun b img)
   unfolding done-begun left-begun
-  start-refused n e = (rw e (unfold done-after in refl), rw e (unfold left-after in refl))
+  start-refused why e = (rw e (unfold done-after in refl), rw e (unfold left-after in refl))
 
   pub start-run : (n : ℕ) (d : Done) (after : List ℕ)
       → b .answer ≡ Started
@@ -116,7 +118,7 @@ module _ (s : Setting) (img : List ℕ) (c : Command) (b : Begun) (bytes : Bytes
     where
       by-answer : (a : Answer (List Step)) → start s img c ≡ a → begins b (length img) (s .granule) a
           → (done-begun b img ≡ finished a) × (left-begun b img ≡ left-finished (s .granule) img a)
-      by-answer (refused n) e h =
+      by-answer (refused why) e h =
           unfold begins done-begun left-begun done-after left-after finished left-finished in (rw h, rw h)
       by-answer (given ss) e h =
           unfold begins done-begun left-begun done-after left-after left-finished in

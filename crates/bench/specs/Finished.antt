@@ -21,19 +21,19 @@ use Rattle.bench.specs.declared.Done.the-variants.{Steps, Refused}
 
 -- the refusal, or all its listed steps
 unfoldable pub finished : Answer (List Step) → Done
-finished (refused n) = Refused n
+finished (refused why) = Refused why
 finished (given ss) = Steps (length ss)
 
 -- the image as it was, or with all listed steps done
 unfoldable pub left-finished : ℕ → List ℕ → Answer (List Step) → List ℕ
-left-finished g img (refused n) = img
+left-finished g img (refused why) = img
 left-finished g img (given ss) = steps g ss img
 
 -- ---- a job of which so many steps remain
 
 unfoldable pub told : Did → Done
 told (Did-steps n) = Steps n
-told (Did-refused n) = Refused n
+told (Did-refused why) = Refused why
 
 unfoldable pub done-by : ℕ → Job → List ℕ → Done
 done-by zero j img = Steps 0
@@ -44,11 +44,11 @@ left-by zero j img = img
 left-by (suc n) j img = image-after-run j (suc n) img
 
 unfoldable pub done-after : Outcome → Job → List ℕ → Done
-done-after (Not-started n) j img = Refused n
+done-after (Not-started why) j img = Refused why
 done-after Started j img = done-by (steps-left j) j img
 
 unfoldable pub left-after : Outcome → Job → List ℕ → List ℕ
-left-after (Not-started n) j img = img
+left-after (Not-started why) j img = img
 left-after Started j img = left-by (steps-left j) j img
 
 -- the same of what a start returned

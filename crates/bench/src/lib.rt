@@ -1,36 +1,31 @@
 // A command on an image in memory, run to its end or cut, for the programs that try the commands on real bytes.
-use book::Command;
-use book::Setting;
 use commands::Begun;
+use commands::Command;
 use commands::Outcome;
 use jobs::Did;
 use jobs::Job;
+use rules::Refusal;
+use rules::Setting;
 ghost use mathlib.Core.Path.{_≡_};
 ghost use Rattle.rules.specs.Commands.{start};
-ghost use Rattle.commands.specs.Begins.{start-result};
-ghost use Rattle.book.specs.Kept.{setting-of, command-of};
+ghost use Rattle.commands.specs.Begins.{command-of, start-result};
+ghost use Rattle.book.specs.Kept.{new-name};
 ghost use Rattle.bench.specs.Finished.{finished, left-finished, done-by, left-by, done-begun, left-begun, wiped-inside};
 
-// How many steps were done, or the number of a refusal.
+// How many steps were done, or a refusal.
 pub enum Done {
     Steps(usize),
-    Refused(u8),
+    Refused(Refusal),
 }
 
-pub fn begin(image: &[u8], s: Setting, command: Command) -> Begun
+// Starts a command; every rename is to the same name.
+pub fn begin(image: &[u8], setting: Setting, command: Command) -> Begun
     ensures { λ r. ⌜
-        r ≡ start-result (setting-of s) (now (image .entry)) (command-of command)
+        r ≡ start-result setting (now (image .entry)) (command-of command new-name)
         ⌝ }
 {
-    match command {
-        Command::Enable(slot) => commands::start_enable(image, s.granule, s.spt0, s.spt1, slot),
-        Command::Disable(slot) => commands::start_disable(image, s.granule, s.spt0, s.spt1, slot),
-        Command::Rename(slot) => {
-            let name = book::parts::new_name();
-            commands::start_rename(image, s.granule, s.spt0, s.spt1, slot, &name)
-        }
-        Command::Repair => commands::start_repair(image, s.granule, s.spt0, s.spt1),
-    }
+    let name = book::parts::new_name();
+    commands::start(image, setting, command, &name)
 }
 
 // Runs a job of which so many steps remain: all of them in one run, and none where none remains.
@@ -46,7 +41,7 @@ fn run_job(image: &mut [u8], job: Job, left: usize) -> Done
     let did = ran.did;
     match did {
         Did::Steps(n) => Done::Steps(n),
-        Did::Refused(no) => Done::Refused(no),
+        Did::Refused(why) => Done::Refused(why),
     }
 }
 
@@ -59,21 +54,21 @@ pub fn run_begun(image: &mut [u8], begun: Begun) -> Done
     let answer = begun.answer;
     let job = begun.job;
     match answer {
-        Outcome::Refused(no) => Done::Refused(no),
+        Outcome::Refused(why) => Done::Refused(why),
         Outcome::Started => run_job(image, job, jobs::remaining(job)),
     }
 }
 
 // Starts a command and does all its steps.
-pub fn finish(image: &mut [u8], s: Setting, command: Command) -> Done
+pub fn finish(image: &mut [u8], setting: Setting, command: Command) -> Done
     ensures { λ r. ⌜
-        (r ≡ finished (start (setting-of s) (now (image .entry)) (command-of command)))
+        (r ≡ finished (start setting (now (image .entry)) (command-of command new-name)))
         × (now (image .exit)
-        ≡ left-finished (s .granule) (now (image .entry))
-        (start (setting-of s) (now (image .entry)) (command-of command)))
+        ≡ left-finished (setting .granule) (now (image .entry))
+        (start setting (now (image .entry)) (command-of command new-name)))
         ⌝ }
 {
-    run_begun(image, begin(image, s, command))
+    run_begun(image, begin(image, setting, command))
 }
 
 // So many bytes 0xFF from an address on: an erase, whole or half done. Nothing where they pass the image's end.

@@ -17,6 +17,14 @@ pub struct Packed {
     pub count: usize,
 }
 
+// The pair that a job is for: the image's length, the granule, where copy 0 and copy 1 are.
+pub struct Target {
+    pub len: usize,
+    pub granule: usize,
+    pub at0: u32,
+    pub at1: u32,
+}
+
 // A block to be rewritten at an address, or not.
 pub struct Rewriting {
     pub wanted: bool,

@@ -1,6 +1,7 @@
 // Jobs: none, blocks rewritten, bytes into places.
 use super::Noted;
 use super::Rewriting;
+use super::Target;
 use super::bytes;
 use jobs::Job;
 use jobs::Kind;
@@ -70,44 +71,38 @@ pub fn no_steps(len: usize, granule: usize) -> Job
 }
 
 // The same block into both copies of a pair, copy 1 and then copy 0.
-pub fn pair_rewritten(len: usize, granule: usize, a0: u32, a1: u32, block: [u8; 4096]) -> Job
-    ensures { λ r. ⌜ r ≡ pair-rewritten len granule a0 a1 block ⌝ }
+pub fn pair_rewritten(to: Target, block: [u8; 4096]) -> Job
+    ensures { λ r. ⌜ r ≡ pair-rewritten (to .len) (to .granule) (to .at0) (to .at1) block ⌝ }
 {
     let x = Rewriting {
         wanted: true,
-        at: a1,
+        at: to.at1,
         block: block,
     };
     let y = Rewriting {
         wanted: true,
-        at: a0,
+        at: to.at0,
         block: block,
     };
-    rewrites(len, granule, x, y)
+    rewrites(to.len, to.granule, x, y)
 }
 
-// Eight bytes into the places noted, in the block at one address, then in the block at another.
-pub fn into_places(
-    len: usize,
-    granule: usize,
-    offset: u32,
-    at: u32,
-    after: u32,
-    found: Noted,
-    value: [u8; 8],
-) -> Job
-    ensures { λ r. ⌜ r ≡ places-written len granule offset at after found value ⌝ }
+// Eight bytes into the places noted, in copy 1 of a pair, then in copy 0.
+pub fn into_places(to: Target, offset: u32, found: Noted, value: [u8; 8]) -> Job
+    ensures { λ r. ⌜
+        r ≡ places-written (to .len) (to .granule) offset (to .at1) (to .at0) found value
+        ⌝ }
 {
     let numbers = found.places;
     Job {
         plan: Plan {
-            len: len,
-            granule: granule,
+            len: to.len,
+            granule: to.granule,
             offset: offset,
             first: Kind::Places,
-            at: at,
+            at: to.at1,
             second: Kind::Places,
-            after: after,
+            after: to.at0,
             count: found.count,
         },
         done: 0,

@@ -10,7 +10,7 @@ use lib.ListN.{length}
 use Rattle.rules.specs.Lists.{without}
 use Rattle.rules.specs.Bytes.{block}
 use Rattle.rules.specs.Answers.{Answer, given, unless, _>>=_}
-use Rattle.rules.specs.Numbers.{Setting}
+use Rattle.rules.specs.declared.Setting.{Setting}
 use Rattle.rules.specs.Table.{entry-count, entries}
 use Rattle.rules.specs.Copies.{view, boot-order, agree-by}
 use Rattle.rules.specs.Readers.{slot-there}
@@ -20,7 +20,7 @@ use Rattle.rules.specs.declared.Step.{Step}
 use Rattle.rules.specs.declared.View.{View}
 use Rattle.rules.proofs.Lists.Tests.{by-cases, unless-given, bind-given, given-inj}
 use Rattle.walks.specs.Entries.{most-entries}
-use Rattle.commands.proofs.Locating.{located}
+use Rattle.reading.proofs.Opening.{located}
 use Rattle.book.specs.Kept.{new-name, slots-of, reading-of, has-slot, takes, taken}
 use Rattle.book.specs.declared.order.Order.{Order}
 use Rattle.book.specs.declared.Book.{Book}

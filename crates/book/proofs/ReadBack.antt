@@ -9,7 +9,8 @@ use lib.ListN.{length, take, drop, length-map}
 use lib.Seq.{take-append-seam}
 use Rattle.rules.specs.Bytes.{block, block-size}
 use Rattle.rules.specs.Answers.{Answer, refused, given, unless, _>>=_}
-use Rattle.rules.specs.Numbers.{Setting}
+use Rattle.rules.specs.declared.Setting.{Setting}
+use Rattle.rules.specs.declared.Refusal.{Refusal}
 use Rattle.rules.specs.Table.{Entry, entry-count, entries, is-slot, slots, slot-starts, starts}
 use Rattle.rules.specs.Pointers.{places, order}
 use Rattle.rules.specs.Copies.{view, order-by, boot-order, agreed, pairs-agree}
@@ -22,13 +23,11 @@ use Rattle.rules.proofs.Table.Standing.{length-entries}
 use Rattle.rules.proofs.Order.OnceEach.{once-order, once-length}
 use Rattle.rules.proofs.Steps.Frame.{length-block}
 use Rattle.walks.specs.Entries.{most-entries}
-use Rattle.reading.specs.Answers.{viewed, listed, count-of}
-use Rattle.reading.specs.declared.Viewed.{Viewed}
-use Rattle.reading.specs.declared.Viewed.the-variants.{At, Refused as NotViewed}
+use Rattle.reading.specs.Answers.{listed, count-of}
 use Rattle.reading.specs.declared.Listed.{Listed}
 use Rattle.reading.specs.declared.Listed.the-variants.{Count, Refused as NotListed}
-use Rattle.commands.specs.Inner.Asked.{Located, copies-equal}
-use Rattle.commands.proofs.Locating.{located}
+use Rattle.reading.proofs.Opening.{located}
+use Rattle.commands.specs.Inner.Asked.{copies-equal}
 use Rattle.commands.proofs.EqualCopies.{pairs-agree-if-equal}
 use Rattle.book.specs.Kept.{room}
 
@@ -54,8 +53,8 @@ short-order s img v h =
 -- ---- the reading
 
 -- a refusal of one answer is that of another
-as-refused : {A B : Type 0} (n m : ℕ) → _≡_ {A = Answer A} (refused n) (refused m) → _≡_ {A = Answer B} (refused n) (refused m)
-as-refused n m e = let same : n ≡ m = cc in rw same
+as-refused : {A B : Type 0} (a b : Refusal) → _≡_ {A = Answer A} (refused a) (refused b) → _≡_ {A = Answer B} (refused a) (refused b)
+as-refused a b e = let same : a ≡ b = cc in rw same
 
 module _ (s : Setting) (img row : List ℕ) (whole : length row ≡ room) where
   order-there : (v : View) → view s img ≡ given v → order-list s img (length row) ≡ given (boot-order img v)
@@ -63,21 +62,21 @@ module _ (s : Setting) (img row : List ℕ) (whole : length row ≡ room) where
   order-there v e =
       rw (e, le-leb (length (boot-order img v)) (length row) (omega (arith, short-order s img v e)))
 
-  module _ (answer : Listed) (n : ℕ) (told : listed answer ≡ count-of (order-list s img (length row))) where
-    pub not-read : answer ≡ NotListed n → refused n ≡ reading s img
+  module _ (answer : Listed) (told : listed answer ≡ count-of (order-list s img (length row))) where
+    pub not-read : (why : Refusal) → answer ≡ NotListed why → refused why ≡ reading s img
     unfolding listed reading
-    not-read q = split (view s img) refl
+    not-read why q = split (view s img) refl
       where
-        said : refused n ≡ count-of (order-list s img (length row))
+        said : refused why ≡ count-of (order-list s img (length row))
         said = ap listed (sym q) ∙ told
 
-        split : (a : Answer View) → view s img ≡ a → refused n ≡ reading s img
-        split (refused m) e = unfold reading order-list count-of _>>=_ in
-            rw e (as-refused n m (rw e at said))
+        split : (a : Answer View) → view s img ≡ a → refused why ≡ reading s img
+        split (refused first) e = unfold reading order-list count-of _>>=_ in
+            rw e (as-refused why first (rw e at said))
         split (given v) e =
-            absurd (refused-given n (length (boot-order img v)) (unfold count-of _>>=_ in rw (order-there v e) at said))
+            absurd (refused-given why (length (boot-order img v)) (unfold count-of _>>=_ in rw (order-there v e) at said))
 
-    module _ (q : answer ≡ Count n) where
+    module _ (n : ℕ) (q : answer ≡ Count n) where
       said : given n ≡ count-of (order-list s img (length row))
       unfolding listed
       said = ap listed (sym q) ∙ told
@@ -86,8 +85,8 @@ module _ (s : Setting) (img row : List ℕ) (whole : length row ≡ room) where
       seen = split (view s img) refl
         where
           split : (a : Answer View) → view s img ≡ a → (v : View) × (a ≡ given v)
-          split (refused m) e =
-              absurd (refused-given m n (sym (unfold order-list count-of _>>=_ in rw e at said)))
+          split (refused why) e =
+              absurd (refused-given why n (sym (unfold order-list count-of _>>=_ in rw e at said)))
           split (given v) e = (v, refl)
 
       pub whole-table : length (table-part s img) ≡ block-size
@@ -116,21 +115,11 @@ module _ (s : Setting) (img row : List ℕ) (whole : length row ≡ room) where
 
 -- ---- the pairs
 
-module _ (s : Setting) (img : List ℕ) (answer : Viewed) (told : viewed answer ≡ view s img) where
-  pub not-viewed : (n : ℕ) → answer ≡ NotViewed n → false ≡ pairs-agree s img
-  unfolding viewed pairs-agree agreed
-  not-viewed n q =
-      let e : view s img ≡ refused n = sym told ∙ ap viewed q in
-      rw e
+module _ (s : Setting) (img : List ℕ) where
+  pub none-agree : (why : Refusal) → view s img ≡ refused why → false ≡ pairs-agree s img
+  unfolding pairs-agree agreed
+  none-agree why e = rw e
 
-  module _ (v : View) (q : answer ≡ At v) where
-    was-viewed : view s img ≡ given v
-    unfolding viewed
-    was-viewed = sym told ∙ ap viewed q
-
-    pub where-blocks-are : Located img v
-    where-blocks-are = located s img v was-viewed
-
-    pub agree-by-copies : copies-equal img v ≡ pairs-agree s img
-    unfolding pairs-agree agreed
-    agree-by-copies = rw was-viewed (sym (pairs-agree-if-equal s img v was-viewed))
+  pub agree-by-copies : (v : View) → view s img ≡ given v → copies-equal img v ≡ pairs-agree s img
+  unfolding pairs-agree agreed
+  agree-by-copies v e = rw e (sym (pairs-agree-if-equal s img v e))

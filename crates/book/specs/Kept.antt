@@ -7,34 +7,21 @@ use lib.ListN.{take, length, replicate}
 use Rattle.rules.specs.Lists.{same}
 use Rattle.rules.specs.Bytes.{block-size}
 use Rattle.rules.specs.Answers.{Answer, refused, given}
-use Rattle.rules.specs.Numbers.{Setting, setting}
 use Rattle.rules.specs.Table.{entry-count, entries}
 use Rattle.rules.specs.Readers.{slot-there}
 use Rattle.rules.specs.Commands.{Command, enable, disable, rename, repair}
 use Rattle.rules.specs.Book.{Reading, changed}
 use Rattle.walks.specs.Entries.{most-entries}
-use Rattle.book.specs.declared.Setting.{Setting as Told}
-use Rattle.book.specs.declared.Command.{Command as Named}
-use Rattle.book.specs.declared.Command.the-variants.{Enable, Disable, Rename, Repair}
 use Rattle.book.specs.declared.order.Order.{Order}
 use Rattle.book.specs.declared.Book.{Book}
 use Rattle.book.specs.declared.Answer.{Answer as Answered}
 use Rattle.book.specs.declared.Answer.the-variants.{Given, Refused}
 use Rattle.book.specs.declared.Read.{Read}
 
-abbrev pub setting-of : Told → Setting
-setting-of s = setting (s .granule) (s .spt0) (s .spt1)
-
 -- the new name of every rename, "SOLVER_2027_JUL"
 abbrev pub new-name : List ℕ
 new-name =
     0x53 ∷ 0x4F ∷ 0x4C ∷ 0x56 ∷ 0x45 ∷ 0x52 ∷ 0x5F ∷ 0x32 ∷ 0x30 ∷ 0x32 ∷ 0x37 ∷ 0x5F ∷ 0x4A ∷ 0x55 ∷ 0x4C ∷ []
-
-unfoldable pub command-of : Named → Command
-command-of (Enable k) = enable (k .0)
-command-of (Disable k) = disable (k .0)
-command-of (Rename k) = rename (k .0) new-name
-command-of Repair = repair
 
 -- ---- readings
 
@@ -57,7 +44,7 @@ reading-of b = record { table = b .table; boot = slots-of (b .order) }
 
 unfoldable pub answer-of : Answered → Reading → Answer Reading
 answer-of Given r = given r
-answer-of (Refused n) r = refused n
+answer-of (Refused why) r = refused why
 
 -- the reading that was given, or refused 1 to 5
 unfoldable pub read-as : Read → Answer Reading
@@ -67,7 +54,7 @@ unfoldable pub same-reading : Reading → Reading → Bool
 same-reading a b = same (a .table) (b .table) && same (a .boot) (b .boot)
 
 unfoldable pub same-answer : Answer Reading → Reading → Bool
-same-answer (refused n) b = false
+same-answer (refused why) b = false
 same-answer (given a) b = same-reading a b
 
 -- ---- the change that a book takes

@@ -1,32 +1,20 @@
 // Document 01's book for the programs that try the commands on real bytes: what a flash reads as, and the change that
 // each finished command makes.
+use commands::Command;
 use order::Order;
 use reading::Listed;
 use reading::Viewed;
-use rules::SlotNo;
+use rules::Refusal;
+use rules::Setting;
 ghost use mathlib.Core.Path.{_≡_};
 ghost use Rattle.rules.specs.Lists.{same};
 ghost use Rattle.rules.specs.Copies.{pairs-agree};
 ghost use Rattle.rules.specs.Book.{reading};
-ghost use Rattle.book.specs.Kept.{setting-of, command-of, reading-of, read-as, same-reading, same-answer, taken};
+ghost use Rattle.commands.specs.Begins.{command-of};
+ghost use Rattle.book.specs.Kept.{new-name, reading-of, read-as, same-reading, same-answer, taken};
 
 pub mod order;
 pub mod parts;
-
-// What the caller gives beside the image.
-pub struct Setting {
-    pub granule: usize,
-    pub spt0: usize,
-    pub spt1: usize,
-}
-
-// A command with its slot; every rename is to the same name.
-pub enum Command {
-    Enable(SlotNo),
-    Disable(SlotNo),
-    Rename(SlotNo),
-    Repair,
-}
 
 // A reading: the table copy read, and the boot order.
 pub struct Book {
@@ -36,7 +24,7 @@ pub struct Book {
 
 pub enum Answer {
     Given,
-    Refused(u8),
+    Refused(Refusal),
 }
 
 // What a flash reads as: beside a refusal the book means nothing.
@@ -46,18 +34,18 @@ pub struct Read {
 }
 
 // The reading of a flash, or the refusal.
-pub fn read_book(image: &[u8], s: Setting) -> Read
-    ensures { λ r. ⌜ read-as r ≡ reading (setting-of s) (now (image .entry)) ⌝ }
+pub fn read_book(image: &[u8], setting: Setting) -> Read
+    ensures { λ r. ⌜ read-as r ≡ reading setting (now (image .entry)) ⌝ }
 {
     let mut row = order::no_slots();
-    let listed = reading::order_list(image, s.granule, s.spt0, s.spt1, &mut row);
+    let listed = reading::order_list(image, setting, &mut row);
     match listed {
-        Listed::Refused(number) => Read {
+        Listed::Refused(why) => Read {
             book: book_of(parts::no_block(), row, 0),
-            answer: Answer::Refused(number),
+            answer: Answer::Refused(why),
         },
         Listed::Count(n) => {
-            let table = parts::block_of(reading::table_read(image, s.granule, s.spt0, s.spt1));
+            let table = parts::block_of(reading::table_read(image, setting));
             Read {
                 book: book_of(table, row, n),
                 answer: Answer::Given,
@@ -100,9 +88,9 @@ pub fn same_book(a: Book, b: Book) -> bool
     parts::same_bytes(&one, &other) & order::same_order(first, second)
 }
 
-// The book after a finished command.
+// The book after a finished command; every rename is to the same name.
 pub fn booked(book: Book, command: Command) -> Book
-    ensures { λ r. ⌜ reading-of r ≡ taken (command-of command) (reading-of book) ⌝ }
+    ensures { λ r. ⌜ reading-of r ≡ taken (command-of command new-name) (reading-of book) ⌝ }
 {
     let table = book.table;
     let order = book.order;
@@ -124,10 +112,10 @@ fn with_order(table: [u8; 4096], order: Order) -> Book
 }
 
 // The flash can be read and both its pairs agree. With a copy read, both copies stand if they are equal.
-pub fn pairs_agree(image: &[u8], s: Setting) -> bool
-    ensures { λ r. ⌜ r ≡ pairs-agree (setting-of s) (now (image .entry)) ⌝ }
+pub fn pairs_agree(image: &[u8], setting: Setting) -> bool
+    ensures { λ r. ⌜ r ≡ pairs-agree setting (now (image .entry)) ⌝ }
 {
-    let seen = reading::view(image, s.granule, s.spt0, s.spt1);
+    let seen = reading::view(image, setting);
     match seen {
         Viewed::Refused(_) => false,
         Viewed::At(v) => {

@@ -1,11 +1,13 @@
-// Each command carried out by the functions for C: started into a lent buffer and, unless refused, run twice. Their
-// contracts say that these calls are as the theorem of `joined_for_c` asks, so the contracts of `delunkpawi_*` give what
+// Any command carried out by the functions for C: started into a lent buffer and, unless refused, run twice. The
+// contract says that these calls are as the theorem of `joined_for_c` asks, so the contracts of `delunkpawi_*` give what
 // it assumes.
+use commands::Command;
+use rules::Setting;
 ghost use mathlib.Core.Path.{_≡_};
 ghost use lib.ListN.{length};
-ghost use Rattle.rules.specs.Numbers.{setting};
-ghost use Rattle.rules.specs.Commands.{enable, disable, rename, repair};
+ghost use Rattle.commands.specs.Begins.{command-of, start-result};
 ghost use Rattle.job_bytes.specs.Form.{job-size};
+ghost use Rattle.linked.specs.Begun.{handed, started-into};
 ghost use Rattle.linked.specs.Ran.{lent};
 ghost use Rattle.carried_for_c.specs.Carrying.{ran-if-started, carried-twice-for-c, order-told};
 
@@ -30,59 +32,52 @@ pub fn run_if_started(
     let _ = linked::runs::delunkpawi_run(job, image, second, done);
 }
 
-// Each of these returns the number of the start.
-pub fn carry_out_enable(
-    image: &mut [u8],
-    granule: usize,
-    spt0: usize,
-    spt1: usize,
-    slot: u32,
-    job: &mut [u8],
-    first: usize,
-    second: usize,
-    done: &mut usize,
-) -> u8
-    requires { ⌜ length (now job) ≡ job-size ⌝ }
+// Any command by its function for C; the name is a rename's.
+pub fn begin(image: &[u8], setting: Setting, command: Command, name: &[u8], job: &mut [u8]) -> u8
     ensures { λ r. ⌜
-        carried-twice-for-c (setting granule spt0 spt1) (enable slot) r
-        (lent (now (job .entry)) (now (image .entry)) (now (done .entry))) first second
-        (lent (now (job .exit)) (now (image .exit)) (now (done .exit)))
+        handed r (now (job .exit))
+        ≡ started-into (now (job .entry))
+        (start-result setting (now (image .entry)) (command-of command (now (name .entry))))
         ⌝ }
 {
-    let number = linked::starts::delunkpawi_enable(image, granule, spt0, spt1, slot, job);
-    run_if_started(number, job, image, first, second, done);
-    number
+    let granule = setting.granule;
+    let spt0 = setting.spt0;
+    let spt1 = setting.spt1;
+    match command {
+        Command::Enable(slot) => linked::starts::delunkpawi_enable(
+            image,
+            granule,
+            spt0,
+            spt1,
+            slot.0,
+            job,
+        ),
+        Command::Disable(slot) => linked::starts::delunkpawi_disable(
+            image,
+            granule,
+            spt0,
+            spt1,
+            slot.0,
+            job,
+        ),
+        Command::Rename(slot) => linked::starts::delunkpawi_rename(
+            image,
+            granule,
+            spt0,
+            spt1,
+            slot.0,
+            name,
+            job,
+        ),
+        Command::Repair => linked::starts::delunkpawi_repair(image, granule, spt0, spt1, job),
+    }
 }
 
-pub fn carry_out_disable(
+// Any command started and, unless refused, run twice; the number is the start's.
+pub fn carry_out(
     image: &mut [u8],
-    granule: usize,
-    spt0: usize,
-    spt1: usize,
-    slot: u32,
-    job: &mut [u8],
-    first: usize,
-    second: usize,
-    done: &mut usize,
-) -> u8
-    requires { ⌜ length (now job) ≡ job-size ⌝ }
-    ensures { λ r. ⌜
-        carried-twice-for-c (setting granule spt0 spt1) (disable slot) r
-        (lent (now (job .entry)) (now (image .entry)) (now (done .entry))) first second
-        (lent (now (job .exit)) (now (image .exit)) (now (done .exit)))
-        ⌝ }
-{
-    let number = linked::starts::delunkpawi_disable(image, granule, spt0, spt1, slot, job);
-    run_if_started(number, job, image, first, second, done);
-    number
-}
-
-pub fn carry_out_rename(
-    image: &mut [u8],
-    granule: usize,
-    spt0: usize,
-    spt1: usize,
-    slot: u32,
+    setting: Setting,
+    command: Command,
     name: &[u8],
     job: &mut [u8],
     first: usize,
@@ -91,51 +86,29 @@ pub fn carry_out_rename(
 ) -> u8
     requires { ⌜ length (now job) ≡ job-size ⌝ }
     ensures { λ r. ⌜
-        carried-twice-for-c (setting granule spt0 spt1) (rename slot (now (name .entry))) r
+        carried-twice-for-c setting (command-of command (now (name .entry))) r
         (lent (now (job .entry)) (now (image .entry)) (now (done .entry))) first second
         (lent (now (job .exit)) (now (image .exit)) (now (done .exit)))
         ⌝ }
 {
-    let number = linked::starts::delunkpawi_rename(image, granule, spt0, spt1, slot, name, job);
-    run_if_started(number, job, image, first, second, done);
-    number
-}
-
-pub fn carry_out_repair(
-    image: &mut [u8],
-    granule: usize,
-    spt0: usize,
-    spt1: usize,
-    job: &mut [u8],
-    first: usize,
-    second: usize,
-    done: &mut usize,
-) -> u8
-    requires { ⌜ length (now job) ≡ job-size ⌝ }
-    ensures { λ r. ⌜
-        carried-twice-for-c (setting granule spt0 spt1) repair r
-        (lent (now (job .entry)) (now (image .entry)) (now (done .entry))) first second
-        (lent (now (job .exit)) (now (image .exit)) (now (done .exit)))
-        ⌝ }
-{
-    let number = linked::starts::delunkpawi_repair(image, granule, spt0, spt1, job);
+    let number = begin(image, setting, command, name, job);
     run_if_started(number, job, image, first, second, done);
     number
 }
 
 // The order asked for: what is returned, written and counted is the reading's.
-pub fn read_order(
-    image: &[u8],
-    granule: usize,
-    spt0: usize,
-    spt1: usize,
-    row: &mut [u32],
-    count: &mut usize,
-) -> u8
+pub fn read_order(image: &[u8], setting: Setting, row: &mut [u32], count: &mut usize) -> u8
     ensures { λ r. ⌜
-        order-told (setting granule spt0 spt1) (now (image .entry)) r (now (row .entry)) (now (row .exit))
+        order-told setting (now (image .entry)) r (now (row .entry)) (now (row .exit))
         (now (count .entry)) (now (count .exit))
         ⌝ }
 {
-    linked::reads::delunkpawi_order(image, granule, spt0, spt1, row, count)
+    linked::reads::delunkpawi_order(
+        image,
+        setting.granule,
+        setting.spt0,
+        setting.spt1,
+        row,
+        count,
+    )
 }

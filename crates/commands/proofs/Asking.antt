@@ -9,8 +9,9 @@ use borrow.Author.Tests.{le-ltb, lt-ltb, ltb-true}
 use lib.ListN.{length, drop}
 use Rattle.rules.specs.Lists.{member}
 use Rattle.rules.specs.Bytes.{block}
-use Rattle.rules.specs.Answers.{Answer, refused, given, unless, _>>=_}
-use Rattle.rules.specs.Numbers.{Setting, setting}
+use Rattle.rules.specs.Answers.{Answer, refused, given, numbered, unless, _>>=_}
+use Rattle.rules.specs.declared.Setting.{Setting}
+use Rattle.rules.specs.declared.Refusal.{Refusal}
 use Rattle.rules.specs.Table.{entry-count, entries, rows, slots, starts}
 use Rattle.rules.specs.Pointers.{places}
 use Rattle.rules.specs.Copies.{view, agree-by, order-by, boot-order}
@@ -21,55 +22,27 @@ use Rattle.rules.specs.declared.View.{View}
 use Rattle.rules.proofs.Lists.Tests.{unless-given}
 use Rattle.rules.proofs.Table.Standing.{length-entries-from}
 use Rattle.rules.proofs.Table.Renaming.{slot-row-found}
-use Rattle.reading.specs.Answers.{viewed}
-use Rattle.reading.specs.declared.Viewed.{Viewed}
-use Rattle.reading.specs.declared.Viewed.the-variants.{At, Refused as NotViewed}
 use Rattle.jobs.specs.declared.Job.{Job}
 use Rattle.blocks.proofs.Walking.{in-order}
 use Rattle.commands.specs.JobFor.{enable-job, disable-job, rename-job, repair-job, job-for}
-use Rattle.commands.specs.Begins.{refusal, started, returned, job-by, start-result}
+use Rattle.commands.specs.Begins.{refusal, started, returned, job-by}
 use Rattle.commands.specs.Inner.Asked.{outcome, copies-equal, slot-asked}
 use Rattle.commands.specs.declared.Begun.{Begun}
 use Rattle.commands.specs.declared.Outcome.{Outcome}
 use Rattle.commands.specs.declared.Outcome.the-variants.{Started, Refused}
 use Rattle.commands.proofs.EqualCopies.{pairs-agree-if-equal}
-use Rattle.commands.proofs.Locating.{same-setting}
 
 -- ---- what a start returns
 
 module _ (s : Setting) (img : List ℕ) (v : View) (c : Command) (r : Begun) where
-  pub returns-refused : (n : ℕ) → r ≡ refusal n → job s img v c ≡ refused n → r ≡ returned (job-by s img v c)
+  pub returns-refused : (why : Refusal) → r ≡ refusal why → job s img v c ≡ refused why → r ≡ returned (job-by s img v c)
   unfolding returned job-by _>>=_
-  returns-refused n er ea = rw ea er
+  returns-refused why er ea = rw ea er
 
   returns-started : (j : Job) (ss : List Step) → r ≡ started j → j ≡ job-for (s .granule) img v c → job s img v c ≡ given ss
       → r ≡ returned (job-by s img v c)
   unfolding returned job-by _>>=_
   returns-started j ss er ej ea = rw ea (er ∙ ap started ej)
-
--- ---- the view
-
-module _ (g a b : ℕ) (img : List ℕ) (r : Viewed) (e : viewed r ≡ view (setting g a b) img) where
-  -- what is begun where there is no view
-  pub result-unseen : (c : Command) (begun : Begun) (n : ℕ) → r ≡ NotViewed n → begun ≡ refusal n
-      → begun ≡ start-result (setting g a b) img c
-  unfolding start-result returned _>>=_ viewed
-  result-unseen c begun n q er = rw (← e, q) er
-
-  module _ (v : View) (q : r ≡ At v) where
-    view-given : view (setting g a b) img ≡ given v
-    unfolding viewed
-    view-given = sym e ∙ ap viewed q
-
-    pub view-again : view (setting g (v .spt0) (v .spt1)) img ≡ given v
-    view-again = rw (same-setting g a b img v view-given) view-given
-
-    -- what is begun by the view
-    pub result-seen : (c : Command) (begun : Begun)
-        → begun ≡ returned (job-by (setting g (v .spt0) (v .spt1)) img v c)
-        → begun ≡ start-result (setting g a b) img c
-    unfolding start-result _>>=_
-    result-seen c begun h = rw (view-given, ← same-setting g a b img v view-given) h
 
 -- ---- repair
 
@@ -83,13 +56,13 @@ repair-started s img v r j er ej = returns-started s img v repair r j (repair-st
 -- ---- refusals 6 and 7
 
 module _ (img : List ℕ) (v : View) (k : ℕ) where
-  pub copies-differ : copies-equal img v ≡ false → slot-asked img v k ≡ refused 6
+  pub copies-differ : copies-equal img v ≡ false → slot-asked img v k ≡ refused (numbered 6)
   unfolding slot-asked unless
   copies-differ f = rw f
 
   module _ (t : copies-equal img v ≡ true) (n m : ℕ) (counted : n ≡ entry-count (block img (v .table)))
       (is-count : m ≡ length (slots (rows n (block img (v .table))))) where
-    pub no-such-slot : m ≤ k → slot-asked img v k ≡ refused 7
+    pub no-such-slot : m ≤ k → slot-asked img v k ≡ refused (numbered 7)
     unfolding slot-asked unless slot-there entries
     no-such-slot h = rw (t, ← counted, ← is-count, le-ltb k m h)
 
@@ -115,22 +88,22 @@ module _ (s : Setting) (img : List ℕ) (v : View) (h : view s img ≡ given v) 
       (asked-first x (copies-equal img v) (slot-there (entries (block img (v .table))) k))
 
   module _ (o : Outcome) (asked : outcome o ≡ slot-asked img v k) where
-    refused-by : {A : Type 0} (x : Answer A) (n : ℕ) → o ≡ Refused n
-        → unless 6 (agree-by s img v) (unless 7 (slot-there (entries (block img (v .table))) k) x) ≡ refused n
+    refused-by : {A : Type 0} (x : Answer A) (why : Refusal) → o ≡ Refused why
+        → unless 6 (agree-by s img v) (unless 7 (slot-there (entries (block img (v .table))) k) x) ≡ refused why
     unfolding outcome _>>=_
-    refused-by x n q = asked-by x ∙ rw (← asked, q)
+    refused-by x why q = asked-by x ∙ rw (← asked, q)
 
-    pub enable-refused : (n : ℕ) → o ≡ Refused n → job s img v (enable k) ≡ refused n
+    pub enable-refused : (why : Refusal) → o ≡ Refused why → job s img v (enable k) ≡ refused why
     unfolding job
-    enable-refused n q = refused-by _ n q
+    enable-refused why q = refused-by _ why q
 
-    pub disable-refused : (n : ℕ) → o ≡ Refused n → job s img v (disable k) ≡ refused n
+    pub disable-refused : (why : Refusal) → o ≡ Refused why → job s img v (disable k) ≡ refused why
     unfolding job
-    disable-refused n q = refused-by _ n q
+    disable-refused why q = refused-by _ why q
 
-    pub rename-refused : (name : List ℕ) (n : ℕ) → o ≡ Refused n → job s img v (rename k name) ≡ refused n
+    pub rename-refused : (name : List ℕ) (why : Refusal) → o ≡ Refused why → job s img v (rename k name) ≡ refused why
     unfolding job
-    rename-refused name n q = refused-by _ n q
+    rename-refused name why q = refused-by _ why q
 
     module _ (q : o ≡ Started) where
       passed-by : {A : Type 0} (x : Answer A)
@@ -164,7 +137,7 @@ module _ (s : Setting) (img : List ℕ) (v : View) (h : view s img ≡ given v) 
           unfolding boot-order order-by
           ordered = rw (ek, ← et, ← ep) (in-order (starts t) k 0 (places p))
 
-          pub disable-refused-8 : length ks ≡ 0 → job s img v (disable k) ≡ refused 8
+          pub disable-refused-8 : length ks ≡ 0 → job s img v (disable k) ≡ refused (numbered 8)
           unfolding job unless
           disable-refused-8 none = passed-by _ ∙ rw (ordered, none)
 
@@ -194,13 +167,13 @@ module _ (s : Setting) (img : List ℕ) (v : View) (h : view s img ≡ given v) 
             omega (arith, found, length-entries-from n (drop 0x20 t))
 
         module _ (name : List ℕ) where
-          pub rename-refused-9 : name-allowed name ≡ false → job s img v (rename k name) ≡ refused 9
+          pub rename-refused-9 : name-allowed name ≡ false → job s img v (rename k name) ≡ refused (numbered 9)
           unfolding job unless
           rename-refused-9 f = passed-by _ ∙ rw f
 
           module _ (allowed : name-allowed name ≡ true) where
             pub rename-refused-10 : name-free (rows n t) (slot-row (rows n t) k) name ≡ false
-                → job s img v (rename k name) ≡ refused 10
+                → job s img v (rename k name) ≡ refused (numbered 10)
             unfolding job unless
             rename-refused-10 f = passed-by _ ∙ rw (allowed, ← same-rows, f)
 

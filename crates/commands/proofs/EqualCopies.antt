@@ -9,7 +9,7 @@ use lib.ListN.{length}
 use Rattle.rules.specs.Lists.{same}
 use Rattle.rules.specs.Bytes.{block}
 use Rattle.rules.specs.Answers.{given}
-use Rattle.rules.specs.Numbers.{Setting}
+use Rattle.rules.specs.declared.Setting.{Setting}
 use Rattle.rules.specs.Table.{table-stands}
 use Rattle.rules.specs.Pointers.{pointers-stand}
 use Rattle.rules.specs.Copies.{copy-read, table-read, pointers-read, view, pair-agrees, tables-agree, pointers-agree, agree-by}

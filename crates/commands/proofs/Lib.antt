@@ -4,3 +4,4 @@ pub mod Asking
 pub mod CommandJobs
 pub mod StartLists
 pub mod Examples
+pub mod NameLent

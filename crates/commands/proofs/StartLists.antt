@@ -11,7 +11,7 @@ use lib.ListN.{length, getD}
 use Rattle.rules.specs.Lists.{member}
 use Rattle.rules.specs.Bytes.{block}
 use Rattle.rules.specs.Answers.{Answer, refused, given, unless, _>>=_}
-use Rattle.rules.specs.Numbers.{Setting}
+use Rattle.rules.specs.declared.Setting.{Setting}
 use Rattle.rules.specs.Table.{entries, starts}
 use Rattle.rules.specs.Pointers.{place-count, places, order, pointers-stand}
 use Rattle.rules.specs.Copies.{view, agree-by, boot-order}
@@ -28,7 +28,7 @@ use Rattle.commands.specs.JobFor.{reorder-job, in-places-job, enable-job
 use Rattle.commands.specs.Begins.{returned, job-by, start-result, begins}
 use Rattle.commands.specs.declared.Begun.{Begun}
 use Rattle.commands.proofs.EqualCopies.{repair-by-copies}
-use Rattle.commands.proofs.Locating.{located}
+use Rattle.reading.proofs.Opening.{located}
 
 -- ---- each command
 
@@ -108,7 +108,7 @@ module _ (s : Setting) (img : List ℕ) (v : View) (h : view s img ≡ given v) 
     where
       by : (a : Answer (List Step)) → job s img v c ≡ a
           → begins (returned (a >>= λ _. given (job-for (s .granule) img v c))) (length img) (s .granule) a
-      by (refused n) e = unfold begins returned _>>=_ in refl
+      by (refused why) e = unfold begins returned _>>=_ in refl
       by (given ss) e = unfold begins returned _>>=_ in (refl, job-lists c ss e)
 
 -- ---- for every setting, image and command
@@ -120,7 +120,7 @@ start-lists s img c = by (view s img) refl
   where
     by : (a : Answer View) → view s img ≡ a
         → begins (returned (a >>= λ v. job-by s img v c)) (length img) (s .granule) (a >>= λ v. job s img v c)
-    by (refused n) e = unfold begins returned _>>=_ in refl
+    by (refused why) e = unfold begins returned _>>=_ in refl
     by (given v) e = unfold _>>=_ in seen-lists s img v e c
 
 -- the same of a value that a start returned

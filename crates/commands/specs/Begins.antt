@@ -4,26 +4,36 @@ use mathlib.Core.Path.{_≡_}
 use mathlib.Core.List.{List}
 use Prim.Native.Nat.{ℕ}
 use Rattle.rules.specs.Answers.{Answer, refused, given, _>>=_}
-use Rattle.rules.specs.Numbers.{Setting}
+use Rattle.rules.specs.declared.Setting.{Setting}
 use Rattle.rules.specs.Copies.{view}
-use Rattle.rules.specs.Commands.{Command, job}
+use Rattle.rules.specs.Commands.{Command, enable, disable, rename, repair, job}
+use Rattle.rules.specs.declared.Refusal.{Refusal}
 use Rattle.rules.specs.declared.Step.{Step}
 use Rattle.rules.specs.declared.View.{View}
 use Rattle.jobs.specs.declared.Job.{Job}
 use Rattle.blocks.specs.Made.{Lists, no-job}
 use Rattle.commands.specs.JobFor.{job-for}
 use Rattle.commands.specs.declared.Begun.{Begun}
+use Rattle.commands.specs.declared.Command.{Command as Asked}
+use Rattle.commands.specs.declared.Command.the-variants.{Enable, Disable, Rename, Repair}
 use Rattle.commands.specs.declared.Outcome.the-variants.{Started, Refused}
 
+-- document 01's command, by the code's and the name lent beside it
+unfoldable pub command-of : Asked → List ℕ → Command
+command-of (Enable slot) name = enable (slot .0)
+command-of (Disable slot) name = disable (slot .0)
+command-of (Rename slot) name = rename (slot .0) name
+command-of Repair name = repair
+
 -- "A refusal returns its number and no job": the job of no steps stands beside it
-abbrev pub refusal : ℕ → Begun
-refusal n = record { job = no-job; answer = Refused n }
+abbrev pub refusal : Refusal → Begun
+refusal why = record { job = no-job; answer = Refused why }
 
 abbrev pub started : Job → Begun
 started j = record { job = j; answer = Started }
 
 unfoldable pub returned : Answer Job → Begun
-returned (refused n) = refusal n
+returned (refused why) = refusal why
 returned (given j) = started j
 
 -- once the view is known: the refusals of `job`, or the job
@@ -34,7 +44,7 @@ job-by s img v c = job s img v c >>= λ _. given (job-for (s .granule) img v c)
 unfoldable pub start-result : Setting → List ℕ → Command → Begun
 start-result s img c = returned (view s img >>= λ v. job-by s img v c)
 
--- refused with this number, or started with a job of these steps, for an image of this length and with this granule
+-- refused so, or started with a job of these steps, for an image of this length and with this granule
 unfoldable pub begins : Begun → ℕ → ℕ → Answer (List Step) → Type 0
-begins r len g (refused n) = r ≡ refusal n
+begins r len g (refused why) = r ≡ refusal why
 begins r len g (given ss) = (r .answer ≡ Started) × Lists (r .job) len g ss

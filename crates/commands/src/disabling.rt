@@ -3,6 +3,7 @@ use super::Begun;
 use super::Outcome;
 use super::refusals;
 use blocks::Noted;
+use blocks::Target;
 use blocks::bytes;
 use blocks::made;
 use blocks::packing;
@@ -10,13 +11,14 @@ use blocks::pointers;
 use blocks::tables;
 use jobs::Job;
 use places::Places;
+use rules::Refusal;
+use rules::Setting;
 use rules::SlotNo;
 use rules::View;
 use slots::Rows;
 ghost use mathlib.Core.Path.{_≡_};
 ghost use lib.ListN.{getD};
 ghost use Rattle.rules.specs.Answers.{given};
-ghost use Rattle.rules.specs.Numbers.{setting};
 ghost use Rattle.rules.specs.Table.{starts};
 ghost use Rattle.rules.specs.Copies.{view};
 ghost use Rattle.rules.specs.Commands.{disable};
@@ -26,15 +28,15 @@ ghost use Rattle.commands.specs.JobFor.{disable-job};
 ghost use Rattle.commands.specs.Begins.{returned, job-by};
 
 // Refusals 6 to 8, or the job of disable: a slot that no place gives is not in the boot order.
-pub fn disable_by(image: &[u8], v: View, granule: usize, slot: SlotNo) -> Begun
-    requires { ⌜ view (setting granule (v .spt0) (v .spt1)) (now image) ≡ given v ⌝ }
+pub fn disable_by(image: &[u8], setting: Setting, v: View, slot: SlotNo) -> Begun
+    requires { ⌜ view setting (now image) ≡ given v ⌝ }
     ensures { λ r. ⌜
-        r ≡ returned (job-by (setting granule (v .spt0) (v .spt1)) (now (image .entry)) v (disable (slot .0)))
+        r ≡ returned (job-by setting (now (image .entry)) v (disable (slot .0)))
         ⌝ }
 {
     let asked = refusals::ask_slot(image, v, slot);
     match asked {
-        Outcome::Refused(no) => refusals::refuse(no),
+        Outcome::Refused(why) => refusals::refuse(why),
         Outcome::Started => {
             let table_at = v.table;
             let pointers_at = v.pointers;
@@ -45,21 +47,17 @@ pub fn disable_by(image: &[u8], v: View, granule: usize, slot: SlotNo) -> Begun
             let start = tables::slot_start(t, rows, slot);
             let found = pointers::giving(t, rows, p, places, slot, start);
             if found.count == 0 {
-                return refusals::refuse(8);
+                return refusals::refuse(Refusal { number: 8 });
             }
-            refusals::begun(disable_job(
-                t,
-                rows,
-                p,
-                places,
-                image.len(),
-                granule,
-                v.cpb0 as u32,
-                v.cpb1 as u32,
-                slot,
-                start,
-                found,
-            ))
+            let at0 = v.cpb0 as u32;
+            let at1 = v.cpb1 as u32;
+            let to = Target {
+                len: image.len(),
+                granule: setting.granule,
+                at0: at0,
+                at1: at1,
+            };
+            refusals::begun(disable_job(t, rows, p, places, to, slot, start, found))
         }
     }
 }
@@ -71,10 +69,7 @@ fn disable_job(
     rows: Rows,
     p: &[u8],
     places: Places,
-    len: usize,
-    granule: usize,
-    cpb0: u32,
-    cpb1: u32,
+    to: Target,
     slot: SlotNo,
     start: u64,
     found: Noted,
@@ -84,21 +79,13 @@ fn disable_job(
         × (found ≡ places-noted (places-giving (now t) (now p) (slot .0)))
         ⌝ }
     ensures { λ r. ⌜
-        r ≡ disable-job len granule cpb0 cpb1 (starts (now (t .entry))) (now (p .entry)) (slot .0)
+        r ≡ disable-job (to .len) (to .granule) (to .at0) (to .at1) (starts (now (t .entry))) (now (p .entry)) (slot .0)
         ⌝ }
 {
     if tables::half_cleared_names(t, rows.count, start) {
         let packed = packing::order_without(t, rows, p, places, slot);
         let block = packed.block;
-        return made::pair_rewritten(len, granule, cpb0, cpb1, block);
+        return made::pair_rewritten(to, block);
     }
-    made::into_places(
-        len,
-        granule,
-        places.offset as u32,
-        cpb1,
-        cpb0,
-        found,
-        bytes::bytes_of(0),
-    )
+    made::into_places(to, places.offset as u32, found, bytes::bytes_of(0))
 }

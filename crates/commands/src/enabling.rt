@@ -2,6 +2,7 @@
 use super::Begun;
 use super::Outcome;
 use super::refusals;
+use blocks::Target;
 use blocks::bytes;
 use blocks::made;
 use blocks::packing;
@@ -9,6 +10,7 @@ use blocks::pointers;
 use blocks::tables;
 use jobs::Job;
 use places::Places;
+use rules::Setting;
 use rules::SlotNo;
 use rules::View;
 use slots::Rows;
@@ -16,7 +18,6 @@ ghost use mathlib.Core.Path.{_≡_};
 ghost use Prim.Native.Nat.{_<_};
 ghost use lib.ListN.{length};
 ghost use Rattle.rules.specs.Answers.{given};
-ghost use Rattle.rules.specs.Numbers.{setting};
 ghost use Rattle.rules.specs.Table.{entries, slots, starts};
 ghost use Rattle.rules.specs.Copies.{view};
 ghost use Rattle.rules.specs.Commands.{enable};
@@ -25,15 +26,15 @@ ghost use Rattle.commands.specs.JobFor.{enable-job};
 ghost use Rattle.commands.specs.Begins.{returned, job-by};
 
 // Refusals 6 and 7, or the job of enable.
-pub fn enable_by(image: &[u8], v: View, granule: usize, slot: SlotNo) -> Begun
-    requires { ⌜ view (setting granule (v .spt0) (v .spt1)) (now image) ≡ given v ⌝ }
+pub fn enable_by(image: &[u8], setting: Setting, v: View, slot: SlotNo) -> Begun
+    requires { ⌜ view setting (now image) ≡ given v ⌝ }
     ensures { λ r. ⌜
-        r ≡ returned (job-by (setting granule (v .spt0) (v .spt1)) (now (image .entry)) v (enable (slot .0)))
+        r ≡ returned (job-by setting (now (image .entry)) v (enable (slot .0)))
         ⌝ }
 {
     let asked = refusals::ask_slot(image, v, slot);
     match asked {
-        Outcome::Refused(no) => refusals::refuse(no),
+        Outcome::Refused(why) => refusals::refuse(why),
         Outcome::Started => {
             let table_at = v.table;
             let pointers_at = v.pointers;
@@ -41,59 +42,36 @@ pub fn enable_by(image: &[u8], v: View, granule: usize, slot: SlotNo) -> Begun
             let p = fields::block_at(image, pointers_at);
             let rows = slots::rows_of(t);
             let places = places::places_of(p);
-            refusals::begun(enable_job(
-                t,
-                rows,
-                p,
-                places,
-                image.len(),
-                granule,
-                v.cpb0 as u32,
-                v.cpb1 as u32,
-                slot,
-            ))
+            let at0 = v.cpb0 as u32;
+            let at1 = v.cpb1 as u32;
+            let to = Target {
+                len: image.len(),
+                granule: setting.granule,
+                at0: at0,
+                at1: at1,
+            };
+            refusals::begun(enable_job(t, rows, p, places, to, slot))
         }
     }
 }
 
 // The job, by the table and the pointer block read: no steps, one place in both copies, or both copies rewritten.
-fn enable_job(
-    t: &[u8],
-    rows: Rows,
-    p: &[u8],
-    places: Places,
-    len: usize,
-    granule: usize,
-    cpb0: u32,
-    cpb1: u32,
-    slot: SlotNo,
-) -> Job
+fn enable_job(t: &[u8], rows: Rows, p: &[u8], places: Places, to: Target, slot: SlotNo) -> Job
     requires { ⌜ Readable (now t) rows (now p) places × (slot .0 < length (slots (entries (now t)))) ⌝ }
     ensures { λ r. ⌜
-        r ≡ enable-job len granule cpb0 cpb1 (starts (now (t .entry))) (now (p .entry)) (slot .0)
+        r ≡ enable-job (to .len) (to .granule) (to .at0) (to .at1) (starts (now (t .entry))) (now (p .entry)) (slot .0)
         ⌝ }
 {
     if pointers::comes_first(t, rows, p, places, slot) {
-        return made::no_steps(len, granule);
+        return made::no_steps(to.len, to.granule);
     }
     let start = tables::slot_start(t, rows, slot);
     if places.free.0 < places.count {
         let one = pointers::one_place(places.free);
-        return made::into_places(
-            len,
-            granule,
-            places.offset as u32,
-            cpb1,
-            cpb0,
-            one,
-            bytes::bytes_of(start),
-        );
+        return made::into_places(to, places.offset as u32, one, bytes::bytes_of(start));
     }
     made::pair_rewritten(
-        len,
-        granule,
-        cpb0,
-        cpb1,
+        to,
         packing::order_with_first(t, rows, p, places, slot, start),
     )
 }

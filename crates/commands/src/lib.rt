@@ -7,16 +7,28 @@ mod renaming; // rename, and refusals 9 and 10
 
 use jobs::Job;
 use reading::Viewed;
+use rules::Refusal;
+use rules::Setting;
 use rules::SlotNo;
+use rules::View;
 ghost use mathlib.Core.Path.{_≡_};
-ghost use Rattle.rules.specs.Numbers.{setting};
+ghost use Rattle.rules.specs.Answers.{given};
+ghost use Rattle.rules.specs.Copies.{view};
 ghost use Rattle.rules.specs.Commands.{enable, disable, rename, repair};
-ghost use Rattle.commands.specs.Begins.{start-result};
+ghost use Rattle.commands.specs.Begins.{command-of, returned, job-by, start-result};
 
-// What a start answers: started, or refused with a number.
+// What is asked of a flash. The new name of a slot is lent beside it.
+pub enum Command {
+    Enable(SlotNo),
+    Disable(SlotNo),
+    Rename(SlotNo),
+    Repair,
+}
+
+// What a start answers: started, or refused.
 pub enum Outcome {
     Started,
-    Refused(u8),
+    Refused(Refusal),
 }
 
 // A start: the job, which is the one of no steps where it was refused, and the answer.
@@ -25,55 +37,60 @@ pub struct Begun {
     pub answer: Outcome,
 }
 
-// Enable a slot: it comes first in the boot order.
-pub fn start_enable(image: &[u8], granule: usize, spt0: usize, spt1: usize, slot: SlotNo) -> Begun
-    ensures { λ r. ⌜ r ≡ start-result (setting granule spt0 spt1) (now (image .entry)) (enable (slot .0)) ⌝ }
+// Any of the commands; only a rename looks at the name.
+pub fn start(image: &[u8], setting: Setting, command: Command, name: &[u8]) -> Begun
+    ensures { λ r. ⌜
+        r ≡ start-result setting (now (image .entry)) (command-of command (now (name .entry)))
+        ⌝ }
 {
-    let seen = reading::view(image, granule, spt0, spt1);
+    let seen = reading::view(image, setting);
     match seen {
-        Viewed::Refused(no) => refusals::refuse(no),
-        Viewed::At(v) => enabling::enable_by(image, v, granule, slot),
+        Viewed::Refused(why) => refusals::refuse(why),
+        Viewed::At(v) => start_by(image, setting, v, command, name),
     }
+}
+
+// The same, once the view of the flash is known.
+fn start_by(image: &[u8], setting: Setting, v: View, command: Command, name: &[u8]) -> Begun
+    requires { ⌜ view setting (now image) ≡ given v ⌝ }
+    ensures { λ r. ⌜
+        r ≡ returned (job-by setting (now (image .entry)) v (command-of command (now (name .entry))))
+        ⌝ }
+{
+    match command {
+        Command::Enable(slot) => enabling::enable_by(image, setting, v, slot),
+        Command::Disable(slot) => disabling::disable_by(image, setting, v, slot),
+        Command::Rename(slot) => renaming::rename_by(image, setting, v, slot, name),
+        Command::Repair => pairs::repair_by(image, setting, v),
+    }
+}
+
+// Enable a slot: it comes first in the boot order.
+pub fn start_enable(image: &[u8], setting: Setting, slot: SlotNo) -> Begun
+    ensures { λ r. ⌜ r ≡ start-result setting (now (image .entry)) (enable (slot .0)) ⌝ }
+{
+    start(image, setting, Command::Enable(slot), b"")
 }
 
 // Disable a slot: it leaves the boot order.
-pub fn start_disable(image: &[u8], granule: usize, spt0: usize, spt1: usize, slot: SlotNo) -> Begun
-    ensures { λ r. ⌜ r ≡ start-result (setting granule spt0 spt1) (now (image .entry)) (disable (slot .0)) ⌝ }
+pub fn start_disable(image: &[u8], setting: Setting, slot: SlotNo) -> Begun
+    ensures { λ r. ⌜ r ≡ start-result setting (now (image .entry)) (disable (slot .0)) ⌝ }
 {
-    let seen = reading::view(image, granule, spt0, spt1);
-    match seen {
-        Viewed::Refused(no) => refusals::refuse(no),
-        Viewed::At(v) => disabling::disable_by(image, v, granule, slot),
-    }
+    start(image, setting, Command::Disable(slot), b"")
 }
 
 // Rename a slot.
-pub fn start_rename(
-    image: &[u8],
-    granule: usize,
-    spt0: usize,
-    spt1: usize,
-    slot: SlotNo,
-    name: &[u8],
-) -> Begun
+pub fn start_rename(image: &[u8], setting: Setting, slot: SlotNo, name: &[u8]) -> Begun
     ensures { λ r. ⌜
-        r ≡ start-result (setting granule spt0 spt1) (now (image .entry)) (rename (slot .0) (now (name .entry)))
+        r ≡ start-result setting (now (image .entry)) (rename (slot .0) (now (name .entry)))
         ⌝ }
 {
-    let seen = reading::view(image, granule, spt0, spt1);
-    match seen {
-        Viewed::Refused(no) => refusals::refuse(no),
-        Viewed::At(v) => renaming::rename_by(image, v, granule, slot, name),
-    }
+    start(image, setting, Command::Rename(slot), name)
 }
 
 // Repair: where a pair disagrees, the copy not read becomes the copy read.
-pub fn start_repair(image: &[u8], granule: usize, spt0: usize, spt1: usize) -> Begun
-    ensures { λ r. ⌜ r ≡ start-result (setting granule spt0 spt1) (now (image .entry)) repair ⌝ }
+pub fn start_repair(image: &[u8], setting: Setting) -> Begun
+    ensures { λ r. ⌜ r ≡ start-result setting (now (image .entry)) repair ⌝ }
 {
-    let seen = reading::view(image, granule, spt0, spt1);
-    match seen {
-        Viewed::Refused(no) => refusals::refuse(no),
-        Viewed::At(v) => pairs::repair_by(image, v, granule),
-    }
+    start(image, setting, Command::Repair, b"")
 }

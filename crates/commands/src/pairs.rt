@@ -2,6 +2,7 @@
 use super::Begun;
 use super::refusals;
 use blocks::Rewriting;
+use rules::Setting;
 use rules::View;
 ghost use mathlib.Core.Path.{_≡_};
 ghost use mathlib.Core.Bool.{cond};
@@ -10,7 +11,6 @@ ghost use lib.Dec.{eqb};
 ghost use lib.ListN.{length};
 ghost use Rattle.rules.specs.Bytes.{block, block-size};
 ghost use Rattle.rules.specs.Answers.{given};
-ghost use Rattle.rules.specs.Numbers.{setting};
 ghost use Rattle.rules.specs.Copies.{view};
 ghost use Rattle.rules.specs.Commands.{repair};
 ghost use Rattle.commands.specs.JobFor.{repaired};
@@ -42,13 +42,13 @@ fn repaired(image: &[u8], a0: usize, a1: usize, read: usize) -> Rewriting
 }
 
 // SPT pair, then CPB pair.
-pub fn repair_by(image: &[u8], v: View, granule: usize) -> Begun
-    requires { ⌜ view (setting granule (v .spt0) (v .spt1)) (now image) ≡ given v ⌝ }
+pub fn repair_by(image: &[u8], setting: Setting, v: View) -> Begun
+    requires { ⌜ view setting (now image) ≡ given v ⌝ }
     ensures { λ r. ⌜
-        r ≡ returned (job-by (setting granule (v .spt0) (v .spt1)) (now (image .entry)) v repair)
+        r ≡ returned (job-by setting (now (image .entry)) v repair)
         ⌝ }
 {
     let tables = repaired(image, v.spt0, v.spt1, v.table);
     let pointers = repaired(image, v.cpb0, v.cpb1, v.pointers);
-    refusals::begun(blocks::made::rewrites(image.len(), granule, tables, pointers))
+    refusals::begun(blocks::made::rewrites(image.len(), setting.granule, tables, pointers))
 }

@@ -2,18 +2,20 @@
 use super::Begun;
 use super::Outcome;
 use jobs::Job;
+use rules::Refusal;
 use rules::SlotNo;
 use rules::View;
 ghost use mathlib.Core.Path.{_≡_};
+ghost use Rattle.reading.specs.Inner.Located.{Located};
 ghost use Rattle.commands.specs.Begins.{refusal, started};
-ghost use Rattle.commands.specs.Inner.Asked.{Located, outcome, slot-asked};
+ghost use Rattle.commands.specs.Inner.Asked.{outcome, slot-asked};
 
-pub fn refuse(no: u8) -> Begun
-    ensures { λ r. ⌜ r ≡ refusal no ⌝ }
+pub fn refuse(why: Refusal) -> Begun
+    ensures { λ r. ⌜ r ≡ refusal why ⌝ }
 {
     Begun {
         job: blocks::made::no_job(),
-        answer: Outcome::Refused(no),
+        answer: Outcome::Refused(why),
     }
 }
 
@@ -32,12 +34,12 @@ pub fn ask_slot(image: &[u8], v: View, slot: SlotNo) -> Outcome
     ensures { λ r. ⌜ outcome r ≡ slot-asked (now (image .entry)) v (slot .0) ⌝ }
 {
     if !(copies::same_blocks(image, v.spt0, v.spt1) & copies::same_blocks(image, v.cpb0, v.cpb1)) {
-        return Outcome::Refused(6);
+        return Outcome::Refused(Refusal { number: 6 });
     }
     let at = v.table;
     let t = fields::block_at(image, at);
     if slots::count_slots(t, entries::entry_count(t)) <= slot.0 as usize {
-        return Outcome::Refused(7);
+        return Outcome::Refused(Refusal { number: 7 });
     }
     Outcome::Started
 }

@@ -2,10 +2,13 @@
 use super::Begun;
 use super::Outcome;
 use super::refusals;
+use blocks::Target;
 use blocks::made;
 use blocks::tables;
 use jobs::Job;
 use rules::EntryNo;
+use rules::Refusal;
+use rules::Setting;
 use rules::SlotNo;
 use rules::View;
 ghost use mathlib.Core.Path.{_≡_};
@@ -14,7 +17,6 @@ ghost use mathlib.Core.Bool.{cond};
 ghost use lib.ListN.{length};
 ghost use Rattle.rules.specs.Bytes.{block-size, up-to-zero};
 ghost use Rattle.rules.specs.Answers.{given};
-ghost use Rattle.rules.specs.Numbers.{setting};
 ghost use Rattle.rules.specs.Table.{has-name};
 ghost use Rattle.rules.specs.Copies.{view};
 ghost use Rattle.rules.specs.Commands.{put-name, rename};
@@ -23,58 +25,50 @@ ghost use Rattle.blocks.specs.Made.{no-steps, pair-rewritten};
 ghost use Rattle.commands.specs.Begins.{returned, job-by};
 
 // Refusals 6, 7, 9 and 10, or the job of rename.
-pub fn rename_by(image: &[u8], v: View, granule: usize, slot: SlotNo, name: &[u8]) -> Begun
-    requires { ⌜ view (setting granule (v .spt0) (v .spt1)) (now image) ≡ given v ⌝ }
+pub fn rename_by(image: &[u8], setting: Setting, v: View, slot: SlotNo, name: &[u8]) -> Begun
+    requires { ⌜ view setting (now image) ≡ given v ⌝ }
     ensures { λ r. ⌜
-        r ≡ returned (job-by (setting granule (v .spt0) (v .spt1)) (now (image .entry)) v (rename (slot .0) (now (name .entry))))
+        r ≡ returned (job-by setting (now (image .entry)) v (rename (slot .0) (now (name .entry))))
         ⌝ }
 {
     let asked = refusals::ask_slot(image, v, slot);
     match asked {
-        Outcome::Refused(no) => refusals::refuse(no),
+        Outcome::Refused(why) => refusals::refuse(why),
         Outcome::Started => {
             if !tables::name_allowed(name) {
-                return refusals::refuse(9);
+                return refusals::refuse(Refusal { number: 9 });
             }
             let table_at = v.table;
             let t = fields::block_at(image, table_at);
             let n = entries::entry_count(t);
             let row = slots::slot_row(t, n, slot);
             if !tables::name_free(t, n, row, name) {
-                return refusals::refuse(10);
+                return refusals::refuse(Refusal { number: 10 });
             }
-            refusals::begun(rename_job(
-                t,
-                row,
-                name,
-                image.len(),
-                granule,
-                v.spt0 as u32,
-                v.spt1 as u32,
-            ))
+            let at0 = v.spt0 as u32;
+            let at1 = v.spt1 as u32;
+            let to = Target {
+                len: image.len(),
+                granule: setting.granule,
+                at0: at0,
+                at1: at1,
+            };
+            refusals::begun(rename_job(t, row, name, to))
         }
     }
 }
 
 // The job, by the table read and the entry of the slot: no steps where it has the name already.
-fn rename_job(
-    t: &[u8],
-    row: EntryNo,
-    name: &[u8],
-    len: usize,
-    granule: usize,
-    spt0: u32,
-    spt1: u32,
-) -> Job
+fn rename_job(t: &[u8], row: EntryNo, name: &[u8], to: Target) -> Job
     requires { ⌜ ((length (now t) ≡ block-size) × (row .0 < most-entries)) × (length (now name) ≤ 16) ⌝ }
     ensures { λ r. ⌜
         r ≡ cond (has-name (up-to-zero (now (name .entry))) (entry-at (now (t .entry)) (row .0)))
-        (no-steps len granule)
-        (pair-rewritten len granule spt0 spt1 (put-name (now (t .entry)) (row .0) (now (name .entry))))
+        (no-steps (to .len) (to .granule))
+        (pair-rewritten (to .len) (to .granule) (to .at0) (to .at1) (put-name (now (t .entry)) (row .0) (now (name .entry))))
         ⌝ }
 {
     if entries::has_name(t, row, name) {
-        return made::no_steps(len, granule);
+        return made::no_steps(to.len, to.granule);
     }
-    made::pair_rewritten(len, granule, spt0, spt1, tables::with_name(t, row, name))
+    made::pair_rewritten(to, tables::with_name(t, row, name))
 }

@@ -7,8 +7,9 @@ use native.Mathlib.Omega.{arith}
 use borrow.Author.Tests.{ltb-true, le-ltb}
 use lib.ListN.{length}
 use Rattle.rules.specs.Bytes.{little-endian, field, block}
-use Rattle.rules.specs.Answers.{Answer, refused, given, unless, _>>=_}
-use Rattle.rules.specs.Numbers.{Setting}
+use Rattle.rules.specs.Answers.{Answer, refused, given, numbered, unless, _>>=_}
+use Rattle.rules.specs.declared.Setting.{Setting}
+use Rattle.rules.specs.declared.Refusal.{Refusal}
 use Rattle.rules.specs.Table.{Entry, entries-from, entry-count, entries, name, no-entry, name-right}
 use Rattle.rules.specs.Copies.{view}
 use Rattle.rules.specs.Readers.{table-of, table-part}
@@ -29,12 +30,12 @@ no-entry-name i = rw (le-ltb i 0 (omega arith))
 -- ---- by the entries of a table
 
 module _ (es : List Entry) (i : ℕ) where
-  no-name-there : {n : ℕ} → info-in es i ≡ refused n → name-in es i ≡ []
+  no-name-there : {why : Refusal} → info-in es i ≡ refused why → name-in es i ≡ []
   unfolding info-in name-in unless
-  no-name-there {n} e = by-there (entry-there es i) refl
+  no-name-there {why} e = by-there (entry-there es i) refl
     where
       by-there : (b : Bool) → entry-there es i ≡ b → name-in es i ≡ []
-      by-there true t = absurd (refused-given n (facts-of es i) (sym e ∙ rw t))
+      by-there true t = absurd (refused-given why (facts-of es i) (sym e ∙ rw t))
       by-there false t = rw t
 
   a-name-there : {f : Facts} → all name-right es ≡ true → info-in es i ≡ given f → 0 < length (name-in es i)
@@ -46,17 +47,17 @@ module _ (es : List Entry) (i : ℕ) where
           rw t
           (ltb-true 0 (length (name (entry-of es i)))
           (and-true _ _ (all-at name-right es no-entry i right (ltb-true i (length es) t)) .0))
-      by-there false t = absurd (refused-given 92 f (sym (rw t) ∙ e))
+      by-there false t = absurd (refused-given (numbered 92) f (sym (rw t) ∙ e))
 
 -- ---- of a flash
 
 module _ (s : Setting) (img : List ℕ) (i : ℕ) where
-  pub name-none : {n : ℕ} → entry-info s img i ≡ refused n → entry-name s img i ≡ []
+  pub name-none : {why : Refusal} → entry-info s img i ≡ refused why → entry-name s img i ≡ []
   unfolding entry-info entry-name table-part table-of _>>=_
-  name-none {n} e = by-view (view s img) refl
+  name-none e = by-view (view s img) refl
     where
       by-view : (a : Answer View) → view s img ≡ a → entry-name s img i ≡ []
-      by-view (refused m) w = rw w (no-entry-name i)
+      by-view (refused why) w = rw w (no-entry-name i)
       by-view (given v) w = rw w (no-name-there (entries (block img (v .table))) i (rw w at e))
 
   pub name-some : {f : Facts} → entry-info s img i ≡ given f → 0 < length (entry-name s img i)
@@ -64,7 +65,7 @@ module _ (s : Setting) (img : List ℕ) (i : ℕ) where
   name-some {f} e = by-view (view s img) refl
     where
       by-view : (a : Answer View) → view s img ≡ a → 0 < length (entry-name s img i)
-      by-view (refused m) w = absurd (refused-given m f (rw w at e))
+      by-view (refused why) w = absurd (refused-given why f (rw w at e))
       by-view (given v) w =
           let stands = standing s (length img) (block img (v .table))
           (table-read-stands s img v (seen s img v w)) in

@@ -1,4 +1,3 @@
-pub mod Inside
 pub mod Numbered
 pub mod EntryNames
 pub mod Unread

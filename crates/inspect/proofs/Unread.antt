@@ -3,7 +3,7 @@
 use mathlib.Core.Path.{_≡_}
 use mathlib.Core.List.{List}
 use Prim.Native.Nat.{ℕ}
-use Rattle.rules.specs.Numbers.{Setting}
+use Rattle.rules.specs.declared.Setting.{Setting}
 use Rattle.rules.specs.Copies.{pair-agrees, tables-agree, pointers-agree}
 use Rattle.unread.specs.SameBlocks.{SameBlocks}
 use Rattle.unread.proofs.OnlyBlocks.{of-view, table-part-same}

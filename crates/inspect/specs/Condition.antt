@@ -4,7 +4,7 @@ use Prim.Native.Nat.{ℕ}
 use lib.ListN.{length}
 use Rattle.rules.specs.Bytes.{block}
 use Rattle.rules.specs.Answers.{Answer, refused, given, _>>=_}
-use Rattle.rules.specs.Numbers.{Setting}
+use Rattle.rules.specs.declared.Setting.{Setting}
 use Rattle.rules.specs.Table.{table-stands}
 use Rattle.rules.specs.Pointers.{pointers-stand}
 use Rattle.rules.specs.Copies.{view, tables-agree, pointers-agree}
@@ -31,4 +31,4 @@ condition s img = view s img >>= λ v. given (condition-by s img v)
 -- what the code answers
 unfoldable pub inspected : Inspected → Answer Condition
 inspected (Is c) = given c
-inspected (Refused n) = refused n
+inspected (Refused why) = refused why

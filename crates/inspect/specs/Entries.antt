@@ -6,7 +6,7 @@ use lib.Dec.{ltb}
 use lib.ListN.{length, getD}
 use Rattle.rules.specs.Bytes.{block}
 use Rattle.rules.specs.Answers.{Answer, given, unless, _>>=_}
-use Rattle.rules.specs.Numbers.{Setting}
+use Rattle.rules.specs.declared.Setting.{Setting}
 use Rattle.rules.specs.Table.{Entry, entry-count, entries, name, no-entry}
 use Rattle.rules.specs.Copies.{view}
 use Rattle.rules.specs.Readers.{table-part}

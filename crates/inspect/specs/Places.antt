@@ -5,7 +5,7 @@ use lib.Dec.{ltb}
 use lib.ListN.{getD}
 use Rattle.rules.specs.Bytes.{block}
 use Rattle.rules.specs.Answers.{Answer, refused, given, unless, _>>=_}
-use Rattle.rules.specs.Numbers.{Setting}
+use Rattle.rules.specs.declared.Setting.{Setting}
 use Rattle.rules.specs.Table.{starts}
 use Rattle.rules.specs.Pointers.{place-count, places, erased-value, judged}
 use Rattle.rules.specs.Copies.{view}
@@ -36,4 +36,4 @@ place-at s img k = view s img >>= λ v. held-in (block img (v .table)) (block im
 -- what the code answers
 unfoldable pub holding : Holding → Answer Held
 holding (Is h) = given h
-holding (Refused n) = refused n
+holding (Refused why) = refused why

@@ -7,4 +7,4 @@ use Rattle.inspect.specs.declared.Total.the-variants.{Is, Refused}
 -- what the code answers
 unfoldable pub totalled : Total → Answer ℕ
 totalled (Is n) = given n
-totalled (Refused n) = refused n
+totalled (Refused why) = refused why

@@ -4,8 +4,9 @@ use reading::Known;
 use reading::Viewed;
 use rules::EntryNo;
 use rules::Facts;
+use rules::Refusal;
+use rules::Setting;
 ghost use mathlib.Core.Path.{_≡_};
-ghost use Rattle.rules.specs.Numbers.{setting};
 ghost use Rattle.rules.specs.Table.{entry-count, entries};
 ghost use Rattle.reading.specs.Answers.{known};
 ghost use Rattle.walks.specs.Entries.{HasEntries};
@@ -13,12 +14,12 @@ ghost use Rattle.inspect.specs.Totals.{totalled};
 ghost use Rattle.inspect.specs.Entries.{entry-total, info-in, entry-info, name-in, entry-name};
 
 // Refusals 1 to 5, or how many entries there are.
-pub fn entry_total(image: &[u8], granule: usize, spt0: usize, spt1: usize) -> Total
-    ensures { λ r. ⌜ totalled r ≡ entry-total (setting granule spt0 spt1) (now (image .entry)) ⌝ }
+pub fn entry_total(image: &[u8], setting: Setting) -> Total
+    ensures { λ r. ⌜ totalled r ≡ entry-total setting (now (image .entry)) ⌝ }
 {
-    let seen = reading::view(image, granule, spt0, spt1);
+    let seen = reading::view(image, setting);
     match seen {
-        Viewed::Refused(no) => Total::Refused(no),
+        Viewed::Refused(why) => Total::Refused(why),
         Viewed::At(v) => {
             let at = v.table;
             let n = entries::entry_count(fields::block_at(image, at));
@@ -28,12 +29,12 @@ pub fn entry_total(image: &[u8], granule: usize, spt0: usize, spt1: usize) -> To
 }
 
 // Refusals 1 to 5 and 92, or the number, start, length and flags of an entry.
-pub fn entry_info(image: &[u8], granule: usize, spt0: usize, spt1: usize, entry: EntryNo) -> Known
-    ensures { λ r. ⌜ known r ≡ entry-info (setting granule spt0 spt1) (now (image .entry)) (entry .0) ⌝ }
+pub fn entry_info(image: &[u8], setting: Setting, entry: EntryNo) -> Known
+    ensures { λ r. ⌜ known r ≡ entry-info setting (now (image .entry)) (entry .0) ⌝ }
 {
-    let seen = reading::view(image, granule, spt0, spt1);
+    let seen = reading::view(image, setting);
     match seen {
-        Viewed::Refused(no) => Known::Refused(no),
+        Viewed::Refused(why) => Known::Refused(why),
         Viewed::At(v) => {
             let at = v.table;
             info_in(fields::block_at(image, at), entry)
@@ -42,10 +43,10 @@ pub fn entry_info(image: &[u8], granule: usize, spt0: usize, spt1: usize, entry:
 }
 
 // The name of an entry up to its zero, as a part of the image; an empty part when refused.
-pub fn entry_name(image: &[u8], granule: usize, spt0: usize, spt1: usize, entry: EntryNo) -> &[u8]
-    ensures { λ r. ⌜ now r ≡ entry-name (setting granule spt0 spt1) (now (image .entry)) (entry .0) ⌝ }
+pub fn entry_name(image: &[u8], setting: Setting, entry: EntryNo) -> &[u8]
+    ensures { λ r. ⌜ now r ≡ entry-name setting (now (image .entry)) (entry .0) ⌝ }
 {
-    let seen = reading::view(image, granule, spt0, spt1);
+    let seen = reading::view(image, setting);
     match seen {
         Viewed::Refused(_) => &image[..0],
         Viewed::At(v) => {
@@ -60,7 +61,7 @@ fn info_in(t: &[u8], entry: EntryNo) -> Known
     ensures { λ r. ⌜ known r ≡ info-in (entries (now (t .entry))) (entry .0) ⌝ }
 {
     if entries::entry_count(t) <= entry.0 {
-        return Known::Refused(92);
+        return Known::Refused(Refusal { number: 92 });
     }
     Known::Is(Facts {
         entry: entry,

@@ -2,30 +2,30 @@
 use super::Condition;
 use super::Inspected;
 use reading::Viewed;
+use rules::Setting;
 use rules::View;
 ghost use mathlib.Core.Path.{_≡_};
 ghost use Rattle.rules.specs.Answers.{given};
-ghost use Rattle.rules.specs.Numbers.{setting};
 ghost use Rattle.rules.specs.Copies.{view};
 ghost use Rattle.inspect.specs.Condition.{condition-by, condition, inspected};
 
 // Refusals 1 to 5, or the condition of the four blocks.
-pub fn condition_of(image: &[u8], granule: usize, spt0: usize, spt1: usize) -> Inspected
-    ensures { λ r. ⌜ inspected r ≡ condition (setting granule spt0 spt1) (now (image .entry)) ⌝ }
+pub fn condition_of(image: &[u8], setting: Setting) -> Inspected
+    ensures { λ r. ⌜ inspected r ≡ condition setting (now (image .entry)) ⌝ }
 {
-    let seen = reading::view(image, granule, spt0, spt1);
+    let seen = reading::view(image, setting);
     match seen {
-        Viewed::Refused(no) => Inspected::Refused(no),
-        Viewed::At(v) => Inspected::Is(condition_by(image, granule, v)),
+        Viewed::Refused(why) => Inspected::Refused(why),
+        Viewed::At(v) => Inspected::Is(condition_by(image, setting, v)),
     }
 }
 
-fn condition_by(image: &[u8], granule: usize, v: View) -> Condition
-    requires { ⌜ view (setting granule (v .spt0) (v .spt1)) (now image) ≡ given v ⌝ }
-    ensures { λ r. ⌜ r ≡ condition-by (setting granule (v .spt0) (v .spt1)) (now (image .entry)) v ⌝ }
+fn condition_by(image: &[u8], setting: Setting, v: View) -> Condition
+    requires { ⌜ view setting (now image) ≡ given v ⌝ }
+    ensures { λ r. ⌜ r ≡ condition-by setting (now (image .entry)) v ⌝ }
 {
-    let spt0 = table::table_stands(image, v.spt0, granule, v.spt0, v.spt1);
-    let spt1 = table::table_stands(image, v.spt1, granule, v.spt0, v.spt1);
+    let spt0 = table::table_stands(image, v.spt0, setting);
+    let spt1 = table::table_stands(image, v.spt1, setting);
     let cpb0 = places::pointers_stand(image, v.cpb0);
     let cpb1 = places::pointers_stand(image, v.cpb1);
     let tables = copies::same_blocks(image, v.spt0, v.spt1);

@@ -4,6 +4,7 @@ pub mod entry; // the entries of the table read, and refusal 92
 pub mod place; // the places of the pointer block read, and refusal 93
 
 use rules::Place;
+use rules::Refusal;
 
 // For each of the four blocks whether it stands, for each pair whether it agrees.
 pub struct Condition {
@@ -18,13 +19,13 @@ pub struct Condition {
 // The condition of the four blocks, or a refusal.
 pub enum Inspected {
     Is(Condition),
-    Refused(u8),
+    Refused(Refusal),
 }
 
 // How many entries or places there are, or a refusal.
 pub enum Total {
     Is(usize),
-    Refused(u8),
+    Refused(Refusal),
 }
 
 // The judgement of a place, and its value.
@@ -36,5 +37,5 @@ pub struct Held {
 // What a place holds, or a refusal.
 pub enum Holding {
     Is(Held),
-    Refused(u8),
+    Refused(Refusal),
 }

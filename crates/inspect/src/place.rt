@@ -4,8 +4,9 @@ use super::Holding;
 use super::Total;
 use reading::Viewed;
 use rules::PlaceNo;
+use rules::Refusal;
+use rules::Setting;
 ghost use mathlib.Core.Path.{_≡_};
-ghost use Rattle.rules.specs.Numbers.{setting};
 ghost use Rattle.rules.specs.Table.{entry-count};
 ghost use Rattle.walks.specs.Entries.{HasEntries};
 ghost use Rattle.places.specs.Inner.StandingPointers.{StandingPointers};
@@ -13,12 +14,12 @@ ghost use Rattle.inspect.specs.Totals.{totalled};
 ghost use Rattle.inspect.specs.Places.{place-total, held-in, place-at, holding};
 
 // Refusals 1 to 5, or how many places there are.
-pub fn place_total(image: &[u8], granule: usize, spt0: usize, spt1: usize) -> Total
-    ensures { λ r. ⌜ totalled r ≡ place-total (setting granule spt0 spt1) (now (image .entry)) ⌝ }
+pub fn place_total(image: &[u8], setting: Setting) -> Total
+    ensures { λ r. ⌜ totalled r ≡ place-total setting (now (image .entry)) ⌝ }
 {
-    let seen = reading::view(image, granule, spt0, spt1);
+    let seen = reading::view(image, setting);
     match seen {
-        Viewed::Refused(no) => Total::Refused(no),
+        Viewed::Refused(why) => Total::Refused(why),
         Viewed::At(v) => {
             let at = v.pointers;
             let places = places::places_of(fields::block_at(image, at));
@@ -28,12 +29,12 @@ pub fn place_total(image: &[u8], granule: usize, spt0: usize, spt1: usize) -> To
 }
 
 // Refusals 1 to 5 and 93, or what a place holds by the table read.
-pub fn place_at(image: &[u8], granule: usize, spt0: usize, spt1: usize, place: PlaceNo) -> Holding
-    ensures { λ r. ⌜ holding r ≡ place-at (setting granule spt0 spt1) (now (image .entry)) (place .0) ⌝ }
+pub fn place_at(image: &[u8], setting: Setting, place: PlaceNo) -> Holding
+    ensures { λ r. ⌜ holding r ≡ place-at setting (now (image .entry)) (place .0) ⌝ }
 {
-    let seen = reading::view(image, granule, spt0, spt1);
+    let seen = reading::view(image, setting);
     match seen {
-        Viewed::Refused(no) => Holding::Refused(no),
+        Viewed::Refused(why) => Holding::Refused(why),
         Viewed::At(v) => {
             let table_at = v.table;
             let pointers_at = v.pointers;
@@ -50,7 +51,7 @@ fn held_in(t: &[u8], p: &[u8], place: PlaceNo) -> Holding
 {
     let places = places::places_of(p);
     if places.count <= place.0 {
-        return Holding::Refused(93);
+        return Holding::Refused(Refusal { number: 93 });
     }
     let value = places::place_value(p, places, place);
     let judgement = places::judge(t, slots::rows_of(t), value);

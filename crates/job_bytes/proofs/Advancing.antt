@@ -10,6 +10,7 @@ use lib.Seq.{take-at, drop-at, drop-drop, length-take-le}
 use borrow.Author.Tests.{eqb-true}
 use Rattle.rules.specs.Bytes.{block-size, bytes-of, field}
 use Rattle.rules.specs.Answers.{given, unless}
+use Rattle.rules.specs.declared.Refusal.{Refusal}
 use Rattle.rules.specs.Final.{put-at}
 use Rattle.rules.proofs.Lists.Tests.{and-true}
 use Rattle.rules.proofs.Lists.Words.{length-bytes-of}
@@ -142,9 +143,10 @@ decoded-further bs n holds small =
 -- ---- by what was done
 
 module _ (bs : List ℕ) (holds : holds-job bs ≡ true) where
-  pub kept-here : (n : ℕ) → (bs ≡ bytes-after bs (Refused n)) × (decoded bs ≡ given (returned (job-from bs) (Refused n) .job))
+  pub kept-here : (why : Refusal) → (bs ≡ bytes-after bs (Refused why))
+      × (decoded bs ≡ given (returned (job-from bs) (Refused why) .job))
   unfolding bytes-after decoded unless
-  kept-here n = (refl, rw holds)
+  kept-here why = (refl, rw holds)
 
   pub raised-here : (n done : ℕ) (bs′ : List ℕ)
       → done ≡ field done-at 8 bs

@@ -4,7 +4,7 @@ use mathlib.Core.List.{[], _∷_, _++_}
 use Prim.Native.Nat.{_*_}
 use lib.ListN.{replicate}
 use Rattle.rules.specs.Bytes.{block-size, bytes-of}
-use Rattle.rules.specs.Answers.{refused, unless}
+use Rattle.rules.specs.Answers.{refused, unless, numbered}
 use Rattle.jobs.specs.Jobs.{place-room}
 use Rattle.jobs.specs.declared.Job.{Job}
 use Rattle.jobs.specs.declared.Kind.the-variants.{Rewrite, Places}
@@ -43,6 +43,6 @@ unfolding numbers-encoded sizes-encoded addresses-encoded kinds-encoded kind-num
 sample-numbers = refl
 
 -- no bytes at all
-pub nothing-held : decoded [] ≡ refused malformed
+pub nothing-held : decoded [] ≡ refused (numbered malformed)
 unfolding decoded unless holds-job
 nothing-held = refl

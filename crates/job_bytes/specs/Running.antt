@@ -12,7 +12,7 @@ use Rattle.job_bytes.specs.Form.{done-at, job-from, decoded}
 
 -- the number of steps done is the only one that changes
 unfoldable pub bytes-after : List ℕ → Did → List ℕ
-bytes-after bs (Refused number) = bs
+bytes-after bs (Refused why) = bs
 bytes-after bs (Steps n) = put-at done-at (bytes-of 8 (field done-at 8 bs + n)) bs
 
 -- what the run of the job says and leaves; every byte of the buffer afterwards, and the job that it holds

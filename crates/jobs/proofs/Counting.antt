@@ -9,7 +9,7 @@ use lib.Dec.{eqb, ltb}
 use lib.ListN.{length, length-take}
 use borrow.Author.Tests.{lt-ltb}
 use Rattle.rules.specs.Lists.{all}
-use Rattle.rules.specs.Answers.{refused, given, unless}
+use Rattle.rules.specs.Answers.{refused, given, unless, numbered}
 use Rattle.rules.specs.Cuts.{Progress, inside, may-run}
 use Rattle.rules.specs.declared.Step.{Step}
 use Rattle.jobs.specs.Jobs.{steps-of, under-way, admitted, steps-done, returned, ran, steps-left, first-step, next-of, counted, counting}
@@ -18,7 +18,7 @@ use Rattle.jobs.specs.declared.Did.the-variants.{Steps, Refused}
 use Rattle.jobs.specs.declared.Next.the-variants.{Is, Finished}
 use Rattle.jobs.proofs.Running.{steps-advanced}
 
-pub counts-none : (left n : ℕ) → left ≡ 0 → Refused 11 ≡ counted left n
+pub counts-none : (left n : ℕ) → left ≡ 0 → Refused (numbered 11) ≡ counted left n
 unfolding counted
 counts-none left n e = rw e
 
@@ -44,7 +44,7 @@ as-run j n (suc left) p fits e not-12 =
     fitting true not-so = rw (length-take, ← e)
 
 pub counted-as-run : (j : Job) (n : ℕ) (img : List ℕ)
-    → (admitted j img ≡ refused 12 → ⊥)
+    → (admitted j img ≡ refused (numbered 12) → ⊥)
     → counting j n ≡ ran j n (admitted j img)
 unfolding counting steps-left admitted may-run under-way
 counted-as-run j n img not-12 =

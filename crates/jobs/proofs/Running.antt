@@ -10,9 +10,10 @@ use lib.Seq.{drop-drop}
 use borrow.Author.Tests.{lt-ltb, le-ltb}
 use Rattle.rules.proofs.Lists.Tests.{clash}
 use Rattle.rules.specs.Lists.{all}
-use Rattle.rules.specs.Answers.{Answer, refused, given, unless}
+use Rattle.rules.specs.Answers.{Answer, refused, given, unless, numbered}
 use Rattle.rules.specs.Steps.{steps}
 use Rattle.rules.specs.Cuts.{Progress, run, inside, may-run}
+use Rattle.rules.specs.declared.Refusal.{Refusal}
 use Rattle.jobs.specs.Jobs.{listed, steps-of, under-way, admitted, steps-done, advanced, returned, ran, progress-after, ran-by, did-by-run, image-after-run, steps-left}
 use Rattle.jobs.specs.Inner.Parts.{Sized, listed-length, countable, listed-inside}
 use Rattle.jobs.specs.declared.Job.{Job}
@@ -38,10 +39,10 @@ pub record Arrays (j : Job) : Type 0 where
   pub second : Sized (j .second) (j .places) (j .value)
 
 -- what a refused run says and leaves
-pub stays : (j : Job) (budget n : ℕ) (img : List ℕ) → admitted j img ≡ refused n
-    → (Refused n ≡ did-by-run j budget img) × (img ≡ image-after-run j budget img)
+pub stays : (j : Job) (budget : ℕ) (why : Refusal) (img : List ℕ) → admitted j img ≡ refused why
+    → (Refused why ≡ did-by-run j budget img) × (img ≡ image-after-run j budget img)
 unfolding ran progress-after under-way
-stays j budget n img h = (rw (did-by-run, h), rw (image-after-run, h))
+stays j budget why img h = (rw (did-by-run, h), rw (image-after-run, h))
 
 -- a job further on denotes the steps that are left
 pub steps-advanced : (j : Job) (n : ℕ) → steps-of (advanced j n) ≡ drop n (steps-of j)
@@ -65,7 +66,7 @@ module _ (j : Job) (arrays : Arrays j) where
       inside-listed (j .plan) (j .first) (j .second) (j .places) (j .value) (arrays .first) (arrays .second) len
       (j .done)
 
-  pub finished-11 : (img : List ℕ) → listed-length (j .plan) ≤ j .done → admitted j img ≡ refused 11
+  pub finished-11 : (img : List ℕ) → listed-length (j .plan) ≤ j .done → admitted j img ≡ refused (numbered 11)
   unfolding admitted may-run under-way unless
   finished-11 img h = rw (le-ltb 0 (length (steps-of j)) (rw length-steps (omega arith)))
 
@@ -75,7 +76,7 @@ module _ (j : Job) (arrays : Arrays j) where
 
     pub outside-12 : eqb (length img) (j .plan .len) && listed-inside (length img) (j .plan) (j .places) (j .done)
         ≡ false
-        → admitted j img ≡ refused 12
+        → admitted j img ≡ refused (numbered 12)
     unfolding admitted may-run under-way unless
     outside-12 t = rw (left, inside-steps (length img), t)
 
@@ -102,13 +103,13 @@ module _ (j : Job) (arrays : Arrays j) where
 
 -- ---- what a run returns, from what it says
 
-pub refused-steps : (m n : ℕ) → Refused m ≡ Steps n → ⊥
-refused-steps m n e = let z : _≡_ {A = ℕ} 0 1 = cc in omega arith
+pub refused-steps : (why : Refusal) (n : ℕ) → Refused why ≡ Steps n → ⊥
+refused-steps why n e = let z : _≡_ {A = ℕ} 0 1 = cc in omega arith
 
 module _ (j : Job) (img : List ℕ) where
   -- a run is refused, or it starts from the job on this image
   admitted-or-not : (P : Answer Progress → Type 0)
-      → ((n : ℕ) → P (refused n))
+      → ((why : Refusal) → P (refused why))
       → P (given (under-way j img))
       → P (admitted j img)
   unfolding admitted may-run unless
@@ -118,8 +119,8 @@ module _ (j : Job) (img : List ℕ) where
       && all (inside (j .plan .granule) (length (under-way j img .image))) (under-way j img .left))
     where
       tests : (t u : Bool) → P (unless 11 t (unless 12 u (given (under-way j img))))
-      tests false u = not-so 11
-      tests true false = not-so 12
+      tests false u = not-so (numbered 11)
+      tests true false = not-so (numbered 12)
       tests true true = so
 
   pub run-returned : (budget : ℕ) (did : Did) (after : List ℕ)
@@ -134,7 +135,7 @@ module _ (j : Job) (img : List ℕ) where
       (returned j (ran j budget answer .did) ≡ ran j budget answer)
       × (under-way (returned j (ran j budget answer .did) .job) (progress-after j budget img answer .image)
       ≡ progress-after j budget img answer))
-      (λ n. (refl, refl))
+      (λ why. (refl, refl))
       (refl, rw (steps-advanced j (length (take budget (steps-of j))), length-take budget (steps-of j), drop-least budget (steps-of j))))
 
   -- no more steps are done than there are
@@ -144,7 +145,7 @@ module _ (j : Job) (img : List ℕ) where
   run-countable arrays budget did =
       admitted-or-not
       (λ (answer : Answer Progress). did ≡ ran j budget answer .did → countable (j .done) did)
-      (λ m d n e. absurd (refused-steps m n (sym d ∙ e)))
+      (λ why d n e. absurd (refused-steps why n (sym d ∙ e)))
       (λ d n e.
       let count : n ≡ length (take budget (steps-of j)) = cc in
       let k : n ≡ min budget (length (steps-of j)) = count ∙ length-take budget (steps-of j) in

@@ -4,7 +4,7 @@ use mathlib.Core.List.{List, [], _∷_, _++_}
 use Prim.Native.Nat.{ℕ, zero, suc, _+_, min}
 use lib.ListN.{take, drop, length}
 use Rattle.rules.specs.Bytes.{field}
-use Rattle.rules.specs.Answers.{Answer, refused, given}
+use Rattle.rules.specs.Answers.{Answer, refused, given, numbered}
 use Rattle.rules.specs.Steps.{rewrite}
 use Rattle.rules.specs.Commands.{into-places}
 use Rattle.rules.specs.Cuts.{Progress, run, may-run}
@@ -75,17 +75,17 @@ advanced j n = record {
 
 -- what is returned, by what was done: on a refusal the job stays
 abbrev pub returned : Job → Did → Ran
-returned j (Refused n) = record { job = j; did = Refused n }
+returned j (Refused why) = record { job = j; did = Refused why }
 returned j (Steps n) = record { job = advanced j n; did = Steps n }
 
 -- what a run returns
 unfoldable pub ran : Job → ℕ → Answer Progress → Ran
-ran j budget (refused n) = returned j (Refused n)
+ran j budget (refused why) = returned j (Refused why)
 ran j budget (given p) = returned j (Steps (steps-done budget p))
 
 -- the image after a run and the steps that the returned job denotes: on a refusal both stay
 unfoldable pub progress-after : Job → ℕ → List ℕ → Answer Progress → Progress
-progress-after j budget img (refused n) = under-way j img
+progress-after j budget img (refused why) = under-way j img
 progress-after j budget img (given p) = run (j .plan .granule) budget p
 
 -- a run of a job on an image returns r and leaves the image img′
@@ -124,7 +124,7 @@ next-of j = first-step (steps-of j)
 
 -- what is answered to n of them, of so many steps that remain: refused 11 where none do, else that number or all
 unfoldable pub counted : ℕ → ℕ → Did
-counted zero n = Refused 11
+counted zero n = Refused (numbered 11)
 counted (suc left) n = Steps (min n (suc left))
 
 -- what counting them returns

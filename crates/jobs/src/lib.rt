@@ -1,5 +1,6 @@
 // A job: the list of steps of a command, by value. Running it, what remains of it, which step comes next, steps that
 // were carried out elsewhere.
+use rules::Refusal;
 use rules::Step;
 use windows::Window;
 ghost use mathlib.Core.Path.{_≡_};
@@ -46,10 +47,10 @@ pub struct Job {
     pub value: [u8; 8],
 }
 
-// What a run did: so many steps, or refused with a number.
+// What a run did: so many steps, or a refusal.
 pub enum Did {
     Steps(usize),
-    Refused(u8),
+    Refused(Refusal),
 }
 
 pub struct Ran {
@@ -83,9 +84,9 @@ fn returned(job: Job, did: Did) -> Ran
     ensures { λ r. ⌜ r ≡ returned job did ⌝ }
 {
     match did {
-        Did::Refused(number) => Ran {
+        Did::Refused(why) => Ran {
             job,
-            did: Did::Refused(number),
+            did: Did::Refused(why),
         },
         Did::Steps(n) => {
             let mut next = job;
@@ -123,10 +124,10 @@ pub fn run_lent<'a>(
 {
     let count = parts::step_count(plan);
     if count <= done {
-        return Did::Refused(11);
+        return Did::Refused(Refusal { number: 11 });
     }
     if (image.len() != plan.len) | !parts::steps_inside(plan, places, done, image.len()) {
-        return Did::Refused(12);
+        return Did::Refused(Refusal { number: 12 });
     }
     let window = Window {
         from: done,
@@ -197,7 +198,7 @@ pub fn counted_of(plan: Plan, done: usize, n: usize) -> Did
 {
     let left = remaining_of(plan, done);
     if left == 0 {
-        return Did::Refused(11);
+        return Did::Refused(Refusal { number: 11 });
     }
     Did::Steps(numbers::least(n, left))
 }

@@ -5,7 +5,8 @@ use Prim.Native.Nat.{ℕ}
 use lib.ListN.{length}
 use Rattle.rules.specs.Bytes.{Bytes}
 use Rattle.rules.specs.Answers.{Answer, refused, given}
-use Rattle.rules.specs.Numbers.{Setting}
+use Rattle.rules.specs.declared.Refusal.{Refusal}
+use Rattle.rules.specs.declared.Setting.{Setting}
 use Rattle.rules.specs.Copies.{view}
 use Rattle.rules.specs.Commands.{start}
 use Rattle.rules.specs.Cuts.{Progress, half-done, dropped}
@@ -48,12 +49,12 @@ module _ (s : Setting) (img : List ℕ) (c : Carried) where
   when-given ss (answer, lists) left =
       (ap (dropped (s .granule) (c .wiped)) left, rw answer (ap (λ (p : Progress). how-ended (p .left)) left))
 
-  when-refused : (n : ℕ)
-      → begins (c .begun) (length img) (s .granule) (refused n)
+  when-refused : (why : Refusal)
+      → begins (c .begun) (length img) (s .granule) (refused why)
       → all-ran (c .begun .job) img (c .runs)
-      → Same (refused n)
+      → Same (refused why)
   unfolding begins flash-left ending ended-as left-by ended-by dropped half-done
-  when-refused n e went =
+  when-refused why e went =
       let none = nothing-done img (c .runs) (rw e at went) in
       (rw e (ap (dropped (s .granule) (c .wiped)) none), rw e)
 
@@ -68,7 +69,7 @@ module _ (s : Setting) (img : List ℕ) (c : Carried) where
           → start s img (c .command) ≡ a
           → begins (c .begun) (length img) (s .granule) a
           → Same (start s img (c .command))
-      by-answer (refused n) e b = rw e (when-refused n b went)
+      by-answer (refused why) e b = rw e (when-refused why b went)
       by-answer (given ss) e b = rw e (when-given ss b (runs-are-progress ss bytes names e b went))
 
 -- an item leaves bytes

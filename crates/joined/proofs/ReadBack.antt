@@ -8,8 +8,8 @@ use borrow.Author.Tests.{le-leb}
 use lib.Dec.{leb}
 use lib.ListN.{length, take, drop, replicate, length-replicate}
 use lib.Seq.{take-at}
-use Rattle.rules.specs.Answers.{Answer, refused, given, unless, _>>=_}
-use Rattle.rules.specs.Numbers.{Setting}
+use Rattle.rules.specs.Answers.{Answer, refused, given, unless, _>>=_, numbered}
+use Rattle.rules.specs.declared.Setting.{Setting}
 use Rattle.rules.specs.Copies.{view, boot-order}
 use Rattle.rules.specs.Readers.{order-in, order-list, row-after, table-of, table-part}
 use Rattle.rules.specs.Book.{Reading, read-by, reading}
@@ -31,22 +31,22 @@ seen-by : (x : ReadOut) (a : Answer (List ℕ)) (t : List ℕ)
     → x .row-left ≡ row-after a (x .row)
     → seen x ≡ with-order t a
 unfolding seen count-of row-after _>>=_
-seen-by x (refused n) t p l w = rw l
+seen-by x (refused why) t p l w = rw l
 seen-by x (given o) t p l w = rw (l, p, w, take-at o (drop (length o) (x .row)) (length o) refl)
 
 module _ (s : Setting) (img : List ℕ) where
   -- the reading is the table part and the order list's order, where the row has room
   reading-by : (room : ℕ)
-      → (order-list s img room ≡ refused 13 → ⊥)
+      → (order-list s img room ≡ refused (numbered 13) → ⊥)
       → with-order (table-part s img) (order-list s img room) ≡ reading s img
   unfolding order-list order-in unless table-part table-of reading read-by _>>=_
   reading-by room = by-view (view s img)
     where
       by-view : (a : Answer View)
-          → ((a >>= λ v. order-in (boot-order img v) room) ≡ refused 13 → ⊥)
+          → ((a >>= λ v. order-in (boot-order img v) room) ≡ refused (numbered 13) → ⊥)
           → with-order (table-of img a) (a >>= λ v. order-in (boot-order img v) room)
           ≡ (a >>= λ v. given (read-by img v))
-      by-view (refused n) fits = refl
+      by-view (refused why) fits = refl
       by-view (given v) fits = by-room (leb (length (boot-order img v)) room) refl
         where
           by-room : (t : Bool)
@@ -58,7 +58,7 @@ module _ (s : Setting) (img : List ℕ) where
   -- what `table_read` and `order_list` tell of a flash is the book's reading of it, unless the row was too short
   pub seen-is-reading : (x : ReadOut)
       → ReadFrom s img x
-      → (listed (x .answer) ≡ refused 13 → ⊥)
+      → (listed (x .answer) ≡ refused (numbered 13) → ⊥)
       → seen x ≡ reading s img
   unfolding count-of _>>=_
   seen-is-reading x from fits =
@@ -78,21 +78,21 @@ module _ (s : Setting) (img : List ℕ) where
     readers-answer e x from fits =
         let o = order-there (length (x .row)) e fits in
         seen-is-reading x from
-        (λ h. refused-given 13 (length (r .boot)) (sym h ∙ from .answer ∙ rw o)) ∙ e
+        (λ h. refused-given (numbered 13) (length (r .boot)) (sym h ∙ from .answer ∙ rw o)) ∙ e
 
     -- nothing is lost: where the readers tell a reading, that is the reading of the flash
     pub answers-read : Answers s img r → reading s img ≡ given r
     unfolding Answers listed seen _>>=_
     answers-read told =
         let e = told x from (rw length-replicate (omega arith)) in
-        sym (seen-is-reading x from (λ h. refused-given 13 r (sym (short h) ∙ e))) ∙ e
+        sym (seen-is-reading x from (λ h. refused-given (numbered 13) r (sym (short h) ∙ e))) ∙ e
       where
         as-listed : Answer ℕ → Listed
-        as-listed (refused n) = Refused n
+        as-listed (refused why) = Refused why
         as-listed (given n) = Count n
 
         listed-as : (a : Answer ℕ) → listed (as-listed a) ≡ a
-        listed-as (refused n) = refl
+        listed-as (refused why) = refl
         listed-as (given n) = refl
 
         row : List ℕ
@@ -113,5 +113,5 @@ module _ (s : Setting) (img : List ℕ) where
           written = refl;
         }
 
-        short : listed (x .answer) ≡ refused 13 → seen x ≡ refused 13
+        short : listed (x .answer) ≡ refused (numbered 13) → seen x ≡ refused (numbered 13)
         short h = rw h

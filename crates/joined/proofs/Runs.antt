@@ -31,7 +31,7 @@ OnlyRefused11 g len p = (ns : List ℕ)
 -- a run keeps the plan of its job
 plan-kept : (j : Job) (n : ℕ) (a : Answer Progress) → ran j n a .job .plan ≡ j .plan
 unfolding ran
-plan-kept j n (refused m) = refl
+plan-kept j n (refused why) = refl
 plan-kept j n (given p) = refl
 
 run-of-none : (g n : ℕ) (img : List ℕ) → run g n (started-with img []) ≡ started-with img []

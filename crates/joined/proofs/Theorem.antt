@@ -21,7 +21,7 @@ use mathlib.Core.List.{List, [], _∷_, map}
 use Prim.Native.Nat.{ℕ}
 use Rattle.rules.specs.Bytes.{Bytes}
 use Rattle.rules.specs.Answers.{given}
-use Rattle.rules.specs.Numbers.{Setting}
+use Rattle.rules.specs.declared.Setting.{Setting}
 use Rattle.rules.specs.Copies.{pairs-agree}
 use Rattle.rules.specs.Book.{the-commands, Reading, Outcome, reading, flash-after, outcome, booked, Holds, follows, all-proper, Demand3}
 use Rattle.rules.proofs.Claim.Theorem.{demand-3}

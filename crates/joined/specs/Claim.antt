@@ -2,7 +2,7 @@
 use mathlib.Core.Bool.{Bool}
 use mathlib.Core.List.{List, [], _∷_}
 use Prim.Native.Nat.{ℕ}
-use Rattle.rules.specs.Numbers.{Setting}
+use Rattle.rules.specs.declared.Setting.{Setting}
 use Rattle.rules.specs.Book.{the-commands, Reading, Outcome, booked, Untouched, agree-if-finished}
 use Rattle.joined.specs.Items.{Carried, flash-left, ending}
 use Rattle.joined.specs.ReadOut.{Answers}

@@ -2,7 +2,7 @@
 use mathlib.Core.List.{List, [], _∷_, map}
 use Prim.Native.Nat.{ℕ}
 use lib.ListN.{length}
-use Rattle.rules.specs.Numbers.{Setting}
+use Rattle.rules.specs.declared.Setting.{Setting}
 use Rattle.rules.specs.Commands.{Command, start}
 use Rattle.rules.specs.Cuts.{dropped}
 use Rattle.rules.specs.Book.{the-commands, Item, Outcome, was-refused, how-ended}
@@ -31,7 +31,7 @@ unfoldable pub flash-left : Setting → List ℕ → Carried → List ℕ
 flash-left s img c = dropped (s .granule) (c .wiped) (left-by-runs (c .begun .job) img (c .runs))
 
 unfoldable pub ended-as : Answered → List Step → Outcome
-ended-as (Refused n) ss = was-refused
+ended-as (Refused why) ss = was-refused
 ended-as Started ss = how-ended ss
 
 -- refused by its start; finished if its job has no step left; else cut

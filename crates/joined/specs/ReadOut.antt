@@ -4,7 +4,7 @@ use mathlib.Core.List.{List}
 use Prim.Native.Nat.{ℕ, _≤_}
 use lib.ListN.{length, take}
 use Rattle.rules.specs.Answers.{Answer, given, _>>=_}
-use Rattle.rules.specs.Numbers.{Setting}
+use Rattle.rules.specs.declared.Setting.{Setting}
 use Rattle.rules.specs.Readers.{order-list, row-after, table-part}
 use Rattle.rules.specs.Book.{Reading}
 use Rattle.reading.specs.Answers.{listed, count-of}

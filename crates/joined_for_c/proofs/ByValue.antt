@@ -6,8 +6,8 @@ use Prim.Native.Nat.{ℕ, zero, suc, _<_}
 use native.Mathlib.Omega.{arith}
 use borrow.Author.Tests.{eq-eqb}
 use lib.ListN.{length}
-use Rattle.rules.specs.Answers.{Answer, refused, given, unless, _>>=_}
-use Rattle.rules.specs.Numbers.{Setting}
+use Rattle.rules.specs.Answers.{Answer, refused, given, unless, _>>=_, numbered}
+use Rattle.rules.specs.declared.Setting.{Setting}
 use Rattle.rules.specs.Commands.{start}
 use Rattle.rules.specs.Cuts.{Progress, run}
 use Rattle.rules.specs.declared.Step.{Step}
@@ -44,7 +44,7 @@ held bytes j e = e ∙ ap given (sym (the-job bytes j e))
 
 -- ---- runs
 
-refused-did : (n count : ℕ) → 0 < n → did-by n count ≡ Refused n
+refused-did : (n count : ℕ) → 0 < n → did-by n count ≡ Refused (numbered n)
 unfolding did-by
 refused-did zero count h = absurd (omega (arith, h))
 refused-did (suc n) count h = refl
@@ -60,13 +60,13 @@ module _ (bytes img : List ℕ) (r : RunForC) where
   run-refused : (n : ℕ)
       → Held bytes
       → 0 < n
-      → admitted j img ≡ refused n
+      → admitted j img ≡ refused (numbered n)
       → r .number ≡ n
       → r .left ≡ lent bytes img (r .count)
       → Went
   unfolding run-by-value ran progress-after under-way
   run-refused n holds positive a number left =
-      let went = run-returned j img (r .budget) (Refused n) img (rw (did-by-run, a)) (rw (image-after-run, a)) in
+      let went = run-returned j img (r .budget) (Refused (numbered n)) img (rw (did-by-run, a)) (rw (image-after-run, a)) in
       (rw (number, left, refused-did n (r .count) positive) went, rw left holds)
 
   run-went : (p : Progress)
@@ -97,7 +97,7 @@ module _ (bytes img : List ℕ) (r : RunForC) where
           → ran-as (r .number) (r .budget) (lent bytes img (r .count)) (r .left)
           (a >>= λ p. given (record { job = j; progress = p }))
           → Went
-      by-answer (refused n) e positive (number, left) = run-refused n holds positive e number left
+      by-answer (refused why) e positive (number, left) = run-refused (why .number) holds positive e number left
       by-answer (given p) e positive (number, (job, (image, (done, bytes)))) = run-went p e number job image done
 
 runs-by-value : (rs : List RunForC) (bytes img : List ℕ)
@@ -129,7 +129,7 @@ module _ (s : Setting) (img : List ℕ) (c : CarriedForC) where
   unfolding all-ran
   no-runs j e = rw e tt
 
-  item-refused : (n : ℕ) → 0 < n → c .number ≡ n → runs-after (c .number) (c .begun) img (c .runs) → Carry (refused n)
+  item-refused : (n : ℕ) → 0 < n → c .number ≡ n → runs-after (c .number) (c .begun) img (c .runs) → Carry (refused (numbered n))
   unfolding begins by-value begun-by-value runs-after
   item-refused zero positive number none = absurd (omega (arith, positive))
   item-refused (suc n) positive number none = rw number (refl, no-runs no-job (rw number at none))
@@ -153,7 +153,7 @@ module _ (s : Setting) (img : List ℕ) (c : CarriedForC) where
           → NotZero a
           → begun-as (c .number) (c .buffer) (c .begun) (length img) (s .granule) a
           → Carry a
-      by-answer (refused n) positive b = item-refused n positive (unfold begun-as in b .0) went
+      by-answer (refused why) positive b = item-refused (why .number) positive (unfold begun-as in b .0) went
       by-answer (given ss) positive b = item-started ss b went
 
 pub items-by-value : (s : Setting) (cs : List CarriedForC) (img : List ℕ)

@@ -4,7 +4,7 @@ use mathlib.Core.List.{List}
 use Prim.Native.Nat.{ℕ, _≤_}
 use lib.ListN.{length}
 use Rattle.rules.specs.Answers.{Answer, given, _>>=_}
-use Rattle.rules.specs.Numbers.{Setting}
+use Rattle.rules.specs.declared.Setting.{Setting}
 use Rattle.rules.specs.Copies.{view}
 use Rattle.rules.specs.Readers.{order-list, slot-count, slot-facts, slot-name, table-of, table-part}
 use Rattle.rules.specs.Book.{Reading, read-by, reading}

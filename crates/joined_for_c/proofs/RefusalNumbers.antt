@@ -5,14 +5,14 @@ use Prim.Native.Nat.{ℕ, _<_}
 use native.Mathlib.Omega.{arith}
 use Rattle.rules.specs.Bytes.{block}
 use Rattle.rules.specs.Answers.{Answer, refused, given, unless, _>>=_}
-use Rattle.rules.specs.Numbers.{Setting}
+use Rattle.rules.specs.declared.Setting.{Setting}
 use Rattle.rules.specs.Copies.{copy-read, table-read, pointers-read, view-through, view}
 use Rattle.rules.specs.Commands.{Command, enable, disable, rename, repair, job, start}
 use Rattle.rules.specs.Cuts.{Progress, may-run}
 use Rattle.rules.specs.declared.View.{View}
 
 abbrev pub NotZero : {A : Type 0} → Answer A → Type 0
-NotZero (refused n) = 0 < n
+NotZero (refused why) = 0 < why .number
 NotZero (given a) = Unit {0}
 
 unless-not-zero : (A : Type 0) (n : ℕ) (t : Bool) (a : Answer A) → 0 < n → NotZero a → NotZero (unless n t a)
@@ -25,7 +25,7 @@ bind-not-zero : {A B : Type 0} (a : Answer A) (f : A → Answer B)
     → ((x : A) → NotZero (f x))
     → NotZero (a >>= f)
 unfolding _>>=_
-bind-not-zero (refused n) f h k = h
+bind-not-zero (refused why) f h k = h
 bind-not-zero (given x) f h k = k x
 
 copy-not-zero : (n : ℕ) (stands : List ℕ → Bool) (img : List ℕ) (a0 a1 : ℕ)

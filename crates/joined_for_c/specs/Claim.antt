@@ -4,7 +4,7 @@ use mathlib.Core.List.{List, map}
 use Prim.Native.Nat.{ℕ, _≤_}
 use lib.ListN.{length}
 use Rattle.rules.specs.Answers.{given, unless}
-use Rattle.rules.specs.Numbers.{Setting}
+use Rattle.rules.specs.declared.Setting.{Setting}
 use Rattle.rules.specs.Table.{entries, slots}
 use Rattle.rules.specs.Readers.{order-list, slot-count, slot-there, facts, slot-facts, name-in, slot-name}
 use Rattle.rules.specs.Book.{Reading}

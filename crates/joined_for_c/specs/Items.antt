@@ -4,7 +4,8 @@ use mathlib.Core.Path.{_≡_}
 use mathlib.Core.List.{List, [], _∷_, map}
 use Prim.Native.Nat.{ℕ, zero, suc}
 use lib.ListN.{length}
-use Rattle.rules.specs.Numbers.{Setting}
+use Rattle.rules.specs.Answers.{numbered}
+use Rattle.rules.specs.declared.Setting.{Setting}
 use Rattle.rules.specs.Commands.{Command, start}
 use Rattle.jobs.specs.declared.Did.{Did}
 use Rattle.jobs.specs.declared.Did.the-variants.{Steps, Refused}
@@ -65,7 +66,7 @@ carried-out-for-c s img c =
 
 unfoldable pub did-by : ℕ → ℕ → Did
 did-by zero count = Steps count
-did-by (suc n) count = Refused (suc n)
+did-by (suc n) count = Refused (numbered (suc n))
 
 unfoldable pub run-by-value : RunForC → Run
 run-by-value r = record {
@@ -76,7 +77,7 @@ run-by-value r = record {
 
 unfoldable pub begun-by-value : ℕ → List ℕ → Begun
 begun-by-value zero bytes = started (job-from bytes)
-begun-by-value (suc n) bytes = refusal (suc n)
+begun-by-value (suc n) bytes = refusal (numbered (suc n))
 
 unfoldable pub by-value : CarriedForC → Carried
 by-value c = record {

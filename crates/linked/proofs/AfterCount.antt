@@ -2,7 +2,8 @@
 use mathlib.Core.Path.{_≡_, _∙_}
 use mathlib.Core.List.{List}
 use Prim.Native.Nat.{ℕ}
-use Rattle.rules.specs.Answers.{refused, given, _>>=_}
+use Rattle.rules.specs.Answers.{refused, given, _>>=_, numbered}
+use Rattle.rules.specs.declared.Refusal.{Refusal}
 use Rattle.jobs.specs.Jobs.{counted, counting}
 use Rattle.jobs.specs.declared.Did.{Did}
 use Rattle.jobs.specs.declared.Did.the-variants.{Steps, Refused}
@@ -11,7 +12,7 @@ use Rattle.job_bytes.specs.Running.{bytes-after, CountedHere}
 use Rattle.linked.specs.Answered.{number, kept}
 use Rattle.linked.specs.Counted.{answered, counts, bytes-counted, Counted}
 
-pub count-malformed : (bs : List ℕ) (n told : ℕ) → refused malformed ≡ decoded bs → Counted n malformed bs bs told told
+pub count-malformed : (bs : List ℕ) (n told : ℕ) → refused (numbered malformed) ≡ decoded bs → Counted n malformed bs bs told told
 unfolding counts bytes-counted number kept _>>=_
 count-malformed bs n told e = record {
   returned = rw (← e);
@@ -20,7 +21,7 @@ count-malformed bs n told e = record {
   told-left = rw (← e);
 }
 
-module _ (bs bs′ : List ℕ) (n k told : ℕ) (held : given (job-from bs) ≡ decoded bs) (did : Did) (h : CountedHere n bs bs′ did) where
+module _ (bs bs′ : List ℕ) (n told : ℕ) (held : given (job-from bs) ≡ decoded bs) (did : Did) (h : CountedHere n bs bs′ did) where
   -- the answer is what was done
   counts-did : counts bs n ≡ answered did
   unfolding counts _>>=_
@@ -30,7 +31,7 @@ module _ (bs bs′ : List ℕ) (n k told : ℕ) (held : given (job-from bs) ≡ 
   unfolding _>>=_
   job-counted = h .holds ∙ rw (← held)
 
-  pub count-refused : did ≡ Refused k → Counted n k bs bs′ told told
+  pub count-refused : {why : Refusal} → did ≡ Refused why → Counted n (why .number) bs bs′ told told
   unfolding answered bytes-counted bytes-after number kept
   count-refused e = record {
     returned = rw (counts-did, e);
@@ -39,7 +40,7 @@ module _ (bs bs′ : List ℕ) (n k told : ℕ) (held : given (job-from bs) ≡ 
     told-left = rw (counts-did, e);
   }
 
-  pub count-told : did ≡ Steps k → Counted n 0 bs bs′ told k
+  pub count-told : {k : ℕ} → did ≡ Steps k → Counted n 0 bs bs′ told k
   unfolding answered bytes-counted number kept
   count-told e = record {
     returned = rw (counts-did, e);

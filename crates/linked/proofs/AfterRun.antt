@@ -2,7 +2,8 @@
 use mathlib.Core.Path.{_≡_, refl, sym, ap, _∙_}
 use mathlib.Core.List.{List}
 use Prim.Native.Nat.{ℕ}
-use Rattle.rules.specs.Answers.{Answer, refused, given, _>>=_}
+use Rattle.rules.specs.Answers.{Answer, refused, given, _>>=_, numbered}
+use Rattle.rules.specs.declared.Refusal.{Refusal}
 use Rattle.rules.specs.Cuts.{Progress, run}
 use Rattle.jobs.specs.Jobs.{under-way, admitted, steps-done, advanced, ran, progress-after}
 use Rattle.jobs.specs.declared.Job.{Job}
@@ -14,21 +15,21 @@ use Rattle.job_bytes.specs.Running.{bytes-after, RanHere}
 use Rattle.linked.specs.Ran.{lent, running, ran-as}
 
 pub run-malformed : (bs img : List ℕ) (done budget : ℕ)
-    → refused malformed ≡ decoded bs
+    → refused (numbered malformed) ≡ decoded bs
     → ran-as malformed budget (lent bs img done) (lent bs img done) (running bs img)
 unfolding running ran-as _>>=_
 run-malformed bs img done budget e = rw (← e) (refl, refl)
 
-module _ (j : Job) (budget n : ℕ) (img img′ : List ℕ) where
-  refused-by : (a : Answer Progress)
-      → Refused n ≡ ran j budget a .did
+module _ (j : Job) (budget : ℕ) (img img′ : List ℕ) where
+  refused-by : (why : Refusal) (a : Answer Progress)
+      → Refused why ≡ ran j budget a .did
       → img′ ≡ progress-after j budget img a .image
-      → (a ≡ refused n) × (img′ ≡ img)
+      → (a ≡ refused why) × (img′ ≡ img)
   unfolding ran progress-after under-way
-  refused-by (refused m) d e = (cc, e)
-  refused-by (given q) d e = absurd (refused-steps n (steps-done budget q) d)
+  refused-by why (refused w) d e = (cc, e)
+  refused-by why (given q) d e = absurd (refused-steps why (steps-done budget q) d)
 
-  went-by : (a : Answer Progress)
+  went-by : (n : ℕ) (a : Answer Progress)
       → Steps n ≡ ran j budget a .did
       → img′ ≡ progress-after j budget img a .image
       → (q : Progress)
@@ -36,28 +37,28 @@ module _ (j : Job) (budget n : ℕ) (img img′ : List ℕ) where
       × ((ran j budget a .job ≡ advanced j (steps-done budget q))
       × ((img′ ≡ run (j .plan .granule) budget q .image) × (n ≡ steps-done budget q)))
   unfolding ran progress-after
-  went-by (refused m) d e = absurd (refused-steps m n (sym d))
-  went-by (given q) d e = (q, refl, (refl, (e, cc)))
+  went-by n (refused why) d e = absurd (refused-steps why n (sym d))
+  went-by n (given q) d e = (q, refl, (refl, (e, cc)))
 
-module _ (bs img bs′ img′ : List ℕ) (budget n done : ℕ) (held : given (job-from bs) ≡ decoded bs) where
-  pub run-refused : (r : Did)
-      → r ≡ Refused n
+module _ (bs img bs′ img′ : List ℕ) (budget done : ℕ) (held : given (job-from bs) ≡ decoded bs) where
+  pub run-refused : (why : Refusal) (r : Did)
+      → r ≡ Refused why
       → RanHere budget bs img bs′ img′ r
-      → ran-as n budget (lent bs img done) (lent bs′ img′ done) (running bs img)
+      → ran-as (why .number) budget (lent bs img done) (lent bs′ img′ done) (running bs img)
   unfolding running ran-as _>>=_ bytes-after
-  run-refused r e h =
-      let (a, same) = refused-by (job-from bs) budget n img img′ (admitted (job-from bs) img) (sym e ∙ h .did)
+  run-refused why r e h =
+      let (a, same) = refused-by (job-from bs) budget img img′ why (admitted (job-from bs) img) (sym e ∙ h .did)
       (h .image) in
       let kept : bs′ ≡ bs = h .bytes ∙ rw e in
       rw (← held, a) (refl, rw (same, kept))
 
-  pub run-went : (r : Did)
+  pub run-went : (n : ℕ) (r : Did)
       → r ≡ Steps n
       → RanHere budget bs img bs′ img′ r
       → ran-as 0 budget (lent bs img done) (lent bs′ img′ n) (running bs img)
   unfolding running ran-as _>>=_
-  run-went r e h =
-      let (q, a, (next, (image, count))) = went-by (job-from bs) budget n img img′ (admitted (job-from bs) img)
+  run-went n r e h =
+      let (q, a, (next, (image, count))) = went-by (job-from bs) budget img img′ n (admitted (job-from bs) img)
       (sym e ∙ h .did) (h .image) in
       let bytes : bs′ ≡ bytes-after bs (Steps (steps-done budget q)) =
       h .bytes ∙ ap (bytes-after bs) (e ∙ ap (λ (k : ℕ). Steps k) count) in

@@ -7,7 +7,7 @@ use lib.Dec.{eqb}
 use lib.ListN.{length}
 use borrow.Author.Tests.{eq-eqb, ne-eqb, eqb-true}
 use Rattle.rules.specs.Answers.{Answer, refused, given, unless}
-use Rattle.rules.specs.Numbers.{Setting}
+use Rattle.rules.specs.declared.Setting.{Setting}
 use Rattle.rules.specs.Commands.{Command, start}
 use Rattle.rules.specs.declared.Step.{Step}
 use Rattle.rules.proofs.Lists.Tests.{by-cases}
@@ -52,8 +52,8 @@ module _ (before : List ℕ) (whole : length before ≡ job-size) (len granule :
     (r : ℕ) (after : List ℕ) (e : handed r after ≡ handed-over before (b .job) (b .answer)) where
   holds-by : (a : Answer (List Step)) → begins b len granule a → begun-as r before after len granule a
   unfolding begins begun-as handed-over encoded-over
-  holds-by (refused n) begun =
-      let left : handed r after ≡ handed n before = rw begun at e in
+  holds-by (refused why) begun =
+      let left : handed r after ≡ handed (why .number) before = rw begun at e in
       (ap (λ (h : Handed). h .number) left, ap (λ (h : Handed). h .buffer) left)
   holds-by (given ss) (begun, lists) =
       let left : handed r after ≡ handed 0 (encoded-over before (b .job)) = rw begun at e in

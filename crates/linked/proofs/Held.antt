@@ -4,11 +4,11 @@ use mathlib.Core.Bool.{Bool, true, false, not}
 use mathlib.Core.List.{List}
 use Prim.Native.Nat.{ℕ}
 use borrow.Author.Tests.{not-true, not-false}
-use Rattle.rules.specs.Answers.{refused, given, unless}
+use Rattle.rules.specs.Answers.{refused, given, unless, numbered}
 use Rattle.job_bytes.specs.Form.{malformed, job-from, holds-job, decoded}
 
 module _ (bs : List ℕ) (t : Bool) (e : t ≡ holds-job bs) where
-  pub holds-none : not t ≡ true → refused malformed ≡ decoded bs
+  pub holds-none : not t ≡ true → refused (numbered malformed) ≡ decoded bs
   unfolding decoded unless
   holds-none h = rw (← e, not-true t h)
 

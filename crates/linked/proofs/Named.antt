@@ -6,8 +6,9 @@ use native.Mathlib.Omega.{arith}
 use lib.ListN.{length}
 use lib.Seq.{sets-eq}
 use borrow.Author.Tests.{le-leb, lt-leb}
-use Rattle.rules.specs.Answers.{Answer, refused, given, unless, _>>=_}
-use Rattle.rules.specs.Numbers.{Setting}
+use Rattle.rules.specs.Answers.{Answer, refused, given, unless, _>>=_, numbered}
+use Rattle.rules.specs.declared.Refusal.{Refusal}
+use Rattle.rules.specs.declared.Setting.{Setting}
 use Rattle.rules.specs.Readers.{row-after, slot-facts, slot-name}
 use Rattle.rules.specs.declared.Facts.{Facts}
 use Rattle.text.specs.Put.{Put}
@@ -15,14 +16,14 @@ use Rattle.linked.specs.Answered.{Written, too-few, name-answer}
 use Rattle.linked.proofs.Numbered.{number-refused, kept-refused}
 
 module _ (s : Setting) (img : List ℕ) (k room : ℕ) where
-  pub name-refused : {n : ℕ} → refused n ≡ slot-facts s img k → refused n ≡ name-answer s img k room
+  pub name-refused : {why : Refusal} → refused why ≡ slot-facts s img k → refused why ≡ name-answer s img k room
   unfolding name-answer _>>=_
   name-refused e = rw (← e)
 
   pub name-too-long : {f : Facts}
       → given f ≡ slot-facts s img k
       → room < length (slot-name s img k)
-      → refused too-few ≡ name-answer s img k room
+      → refused (numbered too-few) ≡ name-answer s img k room
   unfolding name-answer _>>=_ unless
   name-too-long e h = rw (← e, lt-leb (length (slot-name s img k)) room h)
 
@@ -44,9 +45,9 @@ put-front {row} {after} {text} p h =
     p .stored ∙ sets-eq text row 0 (omega arith) ∙ rw e
 
 -- a refusal writes nothing
-pub written-refused : {a : Answer (List ℕ)} {n : ℕ} (row : List ℕ) (count : ℕ)
-    → refused n ≡ a
-    → Written a n row row count count
+pub written-refused : {a : Answer (List ℕ)} {why : Refusal} (row : List ℕ) (count : ℕ)
+    → refused why ≡ a
+    → Written a (why .number) row row count count
 unfolding row-after
 written-refused row count e = record {
   returned = number-refused e;

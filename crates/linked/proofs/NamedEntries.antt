@@ -4,8 +4,9 @@ use mathlib.Core.List.{List}
 use Prim.Native.Nat.{ℕ, _≤_, _<_}
 use lib.ListN.{length}
 use borrow.Author.Tests.{le-leb, lt-leb}
-use Rattle.rules.specs.Answers.{Answer, refused, given, unless, _>>=_}
-use Rattle.rules.specs.Numbers.{Setting}
+use Rattle.rules.specs.Answers.{Answer, refused, given, unless, _>>=_, numbered}
+use Rattle.rules.specs.declared.Refusal.{Refusal}
+use Rattle.rules.specs.declared.Setting.{Setting}
 use Rattle.rules.specs.Readers.{row-after}
 use Rattle.rules.specs.declared.Facts.{Facts}
 use Rattle.inspect.specs.Entries.{entry-info, entry-name}
@@ -14,14 +15,14 @@ use Rattle.linked.specs.Inspected.{NamedEntry, named-entry, name-of}
 use Rattle.linked.proofs.Numbered.{number-refused, kept-refused}
 
 module _ (s : Setting) (img : List ℕ) (i room : ℕ) where
-  pub entry-refused : {n : ℕ} → refused n ≡ entry-info s img i → refused n ≡ named-entry s img i room
+  pub entry-refused : {why : Refusal} → refused why ≡ entry-info s img i → refused why ≡ named-entry s img i room
   unfolding named-entry _>>=_
   entry-refused e = rw (← e)
 
   pub entry-name-too-long : {f : Facts}
       → given f ≡ entry-info s img i
       → room < length (entry-name s img i)
-      → refused 91 ≡ named-entry s img i room
+      → refused (numbered 91) ≡ named-entry s img i room
   unfolding named-entry _>>=_ unless
   entry-name-too-long e h = rw (← e, lt-leb (length (entry-name s img i)) room h)
 
@@ -36,9 +37,9 @@ module _ (s : Setting) (img : List ℕ) (i room : ℕ) where
 
 module _ {a : Answer NamedEntry} (row : List ℕ) where
   -- a refusal leaves it all as it was
-  pub entry-kept : {n : ℕ} (count start size flags : ℕ)
-      → refused n ≡ a
-      → (n ≡ number a)
+  pub entry-kept : {why : Refusal} (count start size flags : ℕ)
+      → refused why ≡ a
+      → (why .number ≡ number a)
       × ((row ≡ row-after (name-of a) row)
       × ((count ≡ kept (λ e. length (e .name)) a count)
       × ((start ≡ kept (λ e. e .facts .start) a start)

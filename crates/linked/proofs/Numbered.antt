@@ -4,16 +4,17 @@ use mathlib.Core.List.{List}
 use Prim.Native.Nat.{ℕ}
 use lib.ListN.{length}
 use Rattle.rules.specs.Answers.{Answer, refused, given, _>>=_}
+use Rattle.rules.specs.declared.Refusal.{Refusal}
 use Rattle.rules.proofs.Lists.Tests.{refused-given}
 use Rattle.reading.specs.Answers.{count-of}
 use Rattle.linked.specs.Answered.{number, kept}
 
 module _ {A : Type 0} {a : Answer A} where
-  pub number-refused : {n : ℕ} → refused n ≡ a → n ≡ number a
+  pub number-refused : {why : Refusal} → refused why ≡ a → why .number ≡ number a
   unfolding number
   number-refused e = rw (← e)
 
-  pub kept-refused : {n : ℕ} (f : A → ℕ) (old : ℕ) → refused n ≡ a → old ≡ kept f a old
+  pub kept-refused : {why : Refusal} (f : A → ℕ) (old : ℕ) → refused why ≡ a → old ≡ kept f a old
   unfolding kept
   kept-refused f old e = rw (← e)
 
@@ -27,10 +28,10 @@ module _ {A : Type 0} {a : Answer A} where
 
 -- ---- an order by its count
 
-pub order-refused : (a : Answer (List ℕ)) (n : ℕ) → refused n ≡ count-of a → refused n ≡ a
+pub order-refused : (a : Answer (List ℕ)) (why : Refusal) → refused why ≡ count-of a → refused why ≡ a
 unfolding count-of _>>=_
-order-refused (refused m) n e = cc
-order-refused (given o) n e = absurd (refused-given n (length o) e)
+order-refused (refused w) why e = cc
+order-refused (given o) why e = absurd (refused-given why (length o) e)
 
 pub order-given : (a : Answer (List ℕ)) (k : ℕ)
     → given k ≡ count-of a

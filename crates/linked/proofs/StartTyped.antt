@@ -9,7 +9,7 @@ use lib.ListN.{length, getD, length-map, length-reverse}
 use Rattle.rules.specs.Lists.{without}
 use Rattle.rules.specs.Bytes.{bytes-of, block, block-size}
 use Rattle.rules.specs.Answers.{Answer, refused, given, _>>=_}
-use Rattle.rules.specs.Numbers.{Setting}
+use Rattle.rules.specs.declared.Setting.{Setting}
 use Rattle.rules.specs.Table.{entries, slots, starts}
 use Rattle.rules.specs.Pointers.{place-offset, place-count, places, order}
 use Rattle.rules.specs.Copies.{view, agree-by}
@@ -31,10 +31,10 @@ use Rattle.jobs.specs.Jobs.{place-room}
 use Rattle.blocks.specs.Made.{no-job}
 use Rattle.blocks.proofs.Walking.{giving-few, length-places}
 use Rattle.blocks.proofs.OrderPacked.{few-in-order}
-use Rattle.commands.specs.Inner.Asked.{Located}
+use Rattle.reading.specs.Inner.Located.{Located}
 use Rattle.commands.specs.JobFor.{reorder-job, in-places-job, enable-job, disable-job, rename-job, repaired, repair-job, job-for}
 use Rattle.commands.specs.Begins.{returned, job-by, start-result}
-use Rattle.commands.proofs.Locating.{located}
+use Rattle.reading.proofs.Opening.{located}
 use Rattle.commands.proofs.EqualCopies.{either-within}
 use Rattle.job_bytes.proofs.RoundTrip.{Typed}
 use Rattle.linked.proofs.MadeTyped.{rewrites-typed, no-steps-typed, pair-typed, places-typed}
@@ -169,7 +169,7 @@ module _ (s : Setting) (img : List ℕ) (v : View) (h : view s img ≡ given v) 
     where
       by : (a : Answer (List Step)) → job s img v c ≡ a
           → Typed (returned (a >>= λ _. given (job-for (s .granule) img v c)) .job)
-      by (refused n) e = unfold returned _>>=_ no-job in no-steps-typed 0 0 (omega arith) (omega arith)
+      by (refused why) e = unfold returned _>>=_ no-job in no-steps-typed 0 0 (omega arith) (omega arith)
       by (given ss) e = unfold returned _>>=_ in job-typed c ss e
 
 pub start-typed : (s : Setting) (img : List ℕ) (c : Command) → Typed (start-result s img c .job)
@@ -177,5 +177,5 @@ unfolding start-result
 start-typed s img c = by (view s img) refl
   where
     by : (a : Answer View) → view s img ≡ a → Typed (returned (a >>= λ v. job-by s img v c) .job)
-    by (refused n) e = unfold returned _>>=_ no-job in no-steps-typed 0 0 (omega arith) (omega arith)
+    by (refused why) e = unfold returned _>>=_ no-job in no-steps-typed 0 0 (omega arith) (omega arith)
     by (given v) e = unfold _>>=_ in seen-typed s img v e c

@@ -5,17 +5,17 @@ use Prim.Native.Nat.{ℕ}
 use lib.Dec.{leb}
 use lib.ListN.{length}
 use Rattle.rules.specs.Answers.{Answer, refused, given, unless, _>>=_}
-use Rattle.rules.specs.Numbers.{Setting}
+use Rattle.rules.specs.declared.Setting.{Setting}
 use Rattle.rules.specs.Readers.{row-after, slot-facts, slot-name}
 
 -- 0, or the number of the refusal, which is never 0
 unfoldable pub number : {A : Type 0} → Answer A → ℕ
-number (refused n) = n
+number (refused why) = why .number
 number (given a) = 0
 
 -- what a lent number is afterwards: on a refusal what it was
 unfoldable pub kept : {A : Type 0} → (A → ℕ) → Answer A → ℕ → ℕ
-kept f (refused n) old = old
+kept f (refused why) old = old
 kept f (given a) old = f a
 
 -- a list is written into the front of a lent row, and counted

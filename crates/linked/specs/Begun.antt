@@ -24,7 +24,7 @@ handed number buffer = record { number = number; buffer = buffer }
 
 -- a refusal leaves the buffer as it was; else 0, and the job is put into it: what its steps do not use stays
 unfoldable pub handed-over : List ℕ → Job → Outcome → Handed
-handed-over before j (Refused n) = handed n before
+handed-over before j (Refused why) = handed (why .number) before
 handed-over before j Started = handed 0 (encoded-over before j)
 
 -- a command's start over bytes: refused 90 where the buffer has another length than a job's
@@ -41,6 +41,6 @@ for-job bytes a = unless malformed (eqb (length bytes) job-size) a
 -- a refusal leaves the buffer as it was; else it holds a job of the listed steps, of which none is done, for an image
 -- of this length and with this granule
 unfoldable pub begun-as : ℕ → List ℕ → List ℕ → ℕ → ℕ → Answer (List Step) → Type 0
-begun-as r before after len granule (refused n) = (r ≡ n) × (after ≡ before)
+begun-as r before after len granule (refused why) = (r ≡ why .number) × (after ≡ before)
 begun-as r before after len granule (given ss) =
     (r ≡ 0) × ((j : Job) × (decoded after ≡ given j) × Lists j len granule ss)

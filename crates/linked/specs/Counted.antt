@@ -11,7 +11,7 @@ use Rattle.job_bytes.specs.Running.{bytes-after}
 use Rattle.linked.specs.Answered.{number, kept}
 
 unfoldable pub answered : Did → Answer ℕ
-answered (Refused n) = refused n
+answered (Refused why) = refused why
 answered (Steps n) = given n
 
 -- refused 90 or 11, or how many of n steps are counted
@@ -20,7 +20,7 @@ counts bytes n = decoded bytes >>= λ j. answered (counted (steps-left j) n)
 
 -- the bytes of the job: on a refusal as they were
 unfoldable pub bytes-counted : List ℕ → Answer ℕ → List ℕ
-bytes-counted bytes (refused n) = bytes
+bytes-counted bytes (refused why) = bytes
 bytes-counted bytes (given n) = bytes-after bytes (Steps n)
 
 -- what is returned, every byte of the buffer, the job that it holds, and the number told

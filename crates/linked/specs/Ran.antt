@@ -31,7 +31,7 @@ running bytes img = decoded bytes >>= λ j. admitted j img >>= λ p. given (reco
 -- a refusal leaves all as it was; else the steps are done in the image, counted, and left out of the job, of whose bytes
 -- only the number of steps done changes
 unfoldable pub ran-as : ℕ → ℕ → Lent → Lent → Answer Running → Type 0
-ran-as r budget before after (refused n) = (r ≡ n) × (after ≡ before)
+ran-as r budget before after (refused why) = (r ≡ why .number) × (after ≡ before)
 ran-as r budget before after (given w) =
     (r ≡ 0)
     × ((decoded (after .job) ≡ given (advanced (w .job) (steps-done budget (w .progress))))

@@ -7,6 +7,7 @@ use reading::Known;
 use reading::Viewed;
 use rules::EntryNo;
 use rules::PlaceNo;
+use rules::Setting;
 ghost use mathlib.Core.Path.{_≡_};
 ghost use lib.ListN.{length};
 ghost use Rattle.rules.specs.Numbers.{setting};
@@ -48,9 +49,14 @@ pub extern "C" fn delunkpawi_view(
         ≡ kept (λ v. v .pointers) (view (setting granule spt0 spt1) (now (image .entry))) (now (pointers .entry))
         ⌝ }
 {
-    let seen = reading::view(image, granule, spt0, spt1);
+    let setting = Setting {
+        granule: granule,
+        spt0: spt0,
+        spt1: spt1,
+    };
+    let seen = reading::view(image, setting);
     match seen {
-        Viewed::Refused(no) => no,
+        Viewed::Refused(why) => why.number,
         Viewed::At(v) => {
             *cpb0 = v.cpb0;
             *cpb1 = v.cpb1;
@@ -103,9 +109,14 @@ pub extern "C" fn delunkpawi_copies(
         (now (pointers .entry))
         ⌝ }
 {
-    let inspected = inspect::four_blocks::condition_of(image, granule, spt0, spt1);
+    let setting = Setting {
+        granule: granule,
+        spt0: spt0,
+        spt1: spt1,
+    };
+    let inspected = inspect::four_blocks::condition_of(image, setting);
     match inspected {
-        Inspected::Refused(no) => no,
+        Inspected::Refused(why) => why.number,
         Inspected::Is(k) => {
             *table0 = judgements::bit(k.spt0);
             *table1 = judgements::bit(k.spt1);
@@ -133,9 +144,14 @@ pub extern "C" fn delunkpawi_entry_count(
         ≡ kept (λ n. n) (entry-total (setting granule spt0 spt1) (now (image .entry))) (now (count .entry)))
         ⌝ }
 {
-    let total = inspect::entry::entry_total(image, granule, spt0, spt1);
+    let setting = Setting {
+        granule: granule,
+        spt0: spt0,
+        spt1: spt1,
+    };
+    let total = inspect::entry::entry_total(image, setting);
     match total {
-        Total::Refused(no) => no,
+        Total::Refused(why) => why.number,
         Total::Is(n) => {
             *count = n;
             0
@@ -187,11 +203,16 @@ pub extern "C" fn delunkpawi_entry(
         (now (flags .entry))
         ⌝ }
 {
-    let known = inspect::entry::entry_info(image, granule, spt0, spt1, EntryNo(entry));
+    let setting = Setting {
+        granule: granule,
+        spt0: spt0,
+        spt1: spt1,
+    };
+    let known = inspect::entry::entry_info(image, setting, EntryNo(entry));
     match known {
-        Known::Refused(no) => no,
+        Known::Refused(why) => why.number,
         Known::Is(f) => {
-            let found = inspect::entry::entry_name(image, granule, spt0, spt1, EntryNo(entry));
+            let found = inspect::entry::entry_name(image, setting, EntryNo(entry));
             if name.len() < found.len() {
                 return 91;
             }
@@ -220,9 +241,14 @@ pub extern "C" fn delunkpawi_place_count(
         ≡ kept (λ n. n) (place-total (setting granule spt0 spt1) (now (image .entry))) (now (count .entry)))
         ⌝ }
 {
-    let total = inspect::place::place_total(image, granule, spt0, spt1);
+    let setting = Setting {
+        granule: granule,
+        spt0: spt0,
+        spt1: spt1,
+    };
+    let total = inspect::place::place_total(image, setting);
     match total {
-        Total::Refused(no) => no,
+        Total::Refused(why) => why.number,
         Total::Is(n) => {
             *count = n;
             0
@@ -256,9 +282,14 @@ pub extern "C" fn delunkpawi_place(
         (place-at (setting granule spt0 spt1) (now (image .entry)) place) (now (value .entry))
         ⌝ }
 {
-    let holding = inspect::place::place_at(image, granule, spt0, spt1, PlaceNo(place));
+    let setting = Setting {
+        granule: granule,
+        spt0: spt0,
+        spt1: spt1,
+    };
+    let holding = inspect::place::place_at(image, setting, PlaceNo(place));
     match holding {
-        Holding::Refused(no) => no,
+        Holding::Refused(why) => why.number,
         Holding::Is(h) => {
             let judgement = h.judgement;
             *kind = judgements::kind_of(judgement);

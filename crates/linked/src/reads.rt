@@ -2,6 +2,7 @@
 use reading::Counted;
 use reading::Known;
 use reading::Listed;
+use rules::Setting;
 use rules::SlotNo;
 ghost use mathlib.Core.Path.{_≡_};
 ghost use lib.ListN.{length};
@@ -24,9 +25,14 @@ pub extern "C" fn delunkpawi_order(
         (now (row .entry)) (now (row .exit)) (now (count .entry)) (now (count .exit))
         ⌝ }
 {
-    let listed = reading::order_list(image, granule, spt0, spt1, row);
+    let setting = Setting {
+        granule: granule,
+        spt0: spt0,
+        spt1: spt1,
+    };
+    let listed = reading::order_list(image, setting, row);
     match listed {
-        Listed::Refused(no) => no,
+        Listed::Refused(why) => why.number,
         Listed::Count(n) => {
             *count = n;
             0
@@ -49,9 +55,14 @@ pub extern "C" fn delunkpawi_slot_count(
         ≡ kept (λ n. n) (slot-count (setting granule spt0 spt1) (now (image .entry))) (now (count .entry)))
         ⌝ }
 {
-    let counted = reading::slot_count(image, granule, spt0, spt1);
+    let setting = Setting {
+        granule: granule,
+        spt0: spt0,
+        spt1: spt1,
+    };
+    let counted = reading::slot_count(image, setting);
     match counted {
-        Counted::Refused(no) => no,
+        Counted::Refused(why) => why.number,
         Counted::Slots(n) => {
             *count = n;
             0
@@ -90,9 +101,14 @@ pub extern "C" fn delunkpawi_slot_facts(
         ≡ kept (λ f. f .flags) (slot-facts (setting granule spt0 spt1) (now (image .entry)) slot) (now (flags .entry))
         ⌝ }
 {
-    let known = reading::slot_facts(image, granule, spt0, spt1, SlotNo(slot));
+    let setting = Setting {
+        granule: granule,
+        spt0: spt0,
+        spt1: spt1,
+    };
+    let known = reading::slot_facts(image, setting, SlotNo(slot));
     match known {
-        Known::Refused(no) => no,
+        Known::Refused(why) => why.number,
         Known::Is(f) => {
             let e = f.entry;
             *entry = e.0;
@@ -120,11 +136,16 @@ pub extern "C" fn delunkpawi_slot_name(
         (now (name .entry)) (now (name .exit)) (now (count .entry)) (now (count .exit))
         ⌝ }
 {
-    let known = reading::slot_facts(image, granule, spt0, spt1, SlotNo(slot));
+    let setting = Setting {
+        granule: granule,
+        spt0: spt0,
+        spt1: spt1,
+    };
+    let known = reading::slot_facts(image, setting, SlotNo(slot));
     match known {
-        Known::Refused(no) => no,
+        Known::Refused(why) => why.number,
         Known::Is(_) => {
-            let found = reading::slot_name(image, granule, spt0, spt1, SlotNo(slot));
+            let found = reading::slot_name(image, setting, SlotNo(slot));
             if name.len() < found.len() {
                 return 91;
             }

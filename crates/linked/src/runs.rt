@@ -28,7 +28,7 @@ pub extern "C" fn delunkpawi_run(
     }
     let did = job_bytes::held::run(job, image, budget);
     match did {
-        Did::Refused(number) => number,
+        Did::Refused(why) => why.number,
         Did::Steps(n) => {
             *done = n;
             0
@@ -92,7 +92,7 @@ pub extern "C" fn delunkpawi_advance(job: &mut [u8], steps: usize, count: &mut u
     }
     let did = job_bytes::held::advance(job, steps);
     match did {
-        Did::Refused(number) => number,
+        Did::Refused(why) => why.number,
         Did::Steps(n) => {
             *count = n;
             0

@@ -1,12 +1,14 @@
 // A job started: the steps of a command as bytes in the buffer lent for them.
 use commands::Begun;
+use commands::Command;
 use commands::Outcome;
+use rules::Setting;
 use rules::SlotNo;
 ghost use mathlib.Core.Path.{_≡_};
 ghost use lib.ListN.{length};
 ghost use Rattle.rules.specs.Numbers.{setting};
 ghost use Rattle.rules.specs.Commands.{enable, disable, rename, repair};
-ghost use Rattle.commands.specs.Begins.{start-result};
+ghost use Rattle.commands.specs.Begins.{command-of, start-result};
 ghost use Rattle.job_bytes.specs.Form.{job-size};
 ghost use Rattle.linked.specs.Begun.{handed, handed-over, started-into};
 
@@ -25,13 +27,27 @@ fn hand_over(begun: Begun, job: &mut [u8]) -> u8
 {
     let answer = begun.answer;
     match answer {
-        Outcome::Refused(no) => no,
+        Outcome::Refused(why) => why.number,
         Outcome::Started => {
             let value = begun.job;
             job_bytes::encoding::encode(value, job);
             0
         }
     }
+}
+
+// A command started into a lent buffer: refused 90 where that has another length than a job's.
+fn start_into(image: &[u8], setting: Setting, command: Command, name: &[u8], job: &mut [u8]) -> u8
+    ensures { λ r. ⌜
+        handed r (now (job .exit))
+        ≡ started-into (now (job .entry))
+        (start-result setting (now (image .entry)) (command-of command (now (name .entry))))
+        ⌝ }
+{
+    if job.len() != job_bytes::JOB_SIZE {
+        return 90;
+    }
+    hand_over(commands::start(image, setting, command, name), job)
 }
 
 // Enable a slot: it comes first in the boot order.
@@ -49,13 +65,12 @@ pub extern "C" fn delunkpawi_enable(
         ≡ started-into (now (job .entry)) (start-result (setting granule spt0 spt1) (now (image .entry)) (enable slot))
         ⌝ }
 {
-    if job.len() != job_bytes::JOB_SIZE {
-        return 90;
-    }
-    hand_over(
-        commands::start_enable(image, granule, spt0, spt1, SlotNo(slot)),
-        job,
-    )
+    let setting = Setting {
+        granule: granule,
+        spt0: spt0,
+        spt1: spt1,
+    };
+    start_into(image, setting, Command::Enable(SlotNo(slot)), b"", job)
 }
 
 // Disable a slot: it leaves the boot order.
@@ -73,13 +88,12 @@ pub extern "C" fn delunkpawi_disable(
         ≡ started-into (now (job .entry)) (start-result (setting granule spt0 spt1) (now (image .entry)) (disable slot))
         ⌝ }
 {
-    if job.len() != job_bytes::JOB_SIZE {
-        return 90;
-    }
-    hand_over(
-        commands::start_disable(image, granule, spt0, spt1, SlotNo(slot)),
-        job,
-    )
+    let setting = Setting {
+        granule: granule,
+        spt0: spt0,
+        spt1: spt1,
+    };
+    start_into(image, setting, Command::Disable(SlotNo(slot)), b"", job)
 }
 
 // Rename a slot.
@@ -99,13 +113,12 @@ pub extern "C" fn delunkpawi_rename(
         (start-result (setting granule spt0 spt1) (now (image .entry)) (rename slot (now (name .entry))))
         ⌝ }
 {
-    if job.len() != job_bytes::JOB_SIZE {
-        return 90;
-    }
-    hand_over(
-        commands::start_rename(image, granule, spt0, spt1, SlotNo(slot), name),
-        job,
-    )
+    let setting = Setting {
+        granule: granule,
+        spt0: spt0,
+        spt1: spt1,
+    };
+    start_into(image, setting, Command::Rename(SlotNo(slot)), name, job)
 }
 
 // Repair: where a pair disagrees, the copy not read becomes the copy read.
@@ -122,8 +135,10 @@ pub extern "C" fn delunkpawi_repair(
         ≡ started-into (now (job .entry)) (start-result (setting granule spt0 spt1) (now (image .entry)) repair)
         ⌝ }
 {
-    if job.len() != job_bytes::JOB_SIZE {
-        return 90;
-    }
-    hand_over(commands::start_repair(image, granule, spt0, spt1), job)
+    let setting = Setting {
+        granule: granule,
+        spt0: spt0,
+        spt1: spt1,
+    };
+    start_into(image, setting, Command::Repair, b"", job)
 }

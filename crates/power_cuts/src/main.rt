@@ -7,12 +7,12 @@
 // many the further command then left what the book says.
 use bench::Done;
 use book::Book;
-use book::Command;
 use book::Read;
-use book::Setting;
+use commands::Command;
 use jobs::Job;
 use jobs::Next;
 use libc::STDOUT_FILENO;
+use rules::Setting;
 use rules::SlotNo;
 use rules::Step;
 use tally::Tally;
@@ -66,40 +66,40 @@ fn copy(from: &[u8], to: &mut [u8]) {
 }
 
 // The flash, with so many bytes from an address on wiped, and what it reads as.
-fn cut_flash(flash: &[u8], work: &mut [u8], s: Setting, at: usize, k: usize) -> Read {
+fn cut_flash(flash: &[u8], work: &mut [u8], setting: Setting, at: usize, k: usize) -> Read {
     copy(flash, work);
     bench::wipe(work, at, k);
-    book::read_book(work, s)
+    book::read_book(work, setting)
 }
 
 // A repair keeps the reading and makes the pairs agree.
-fn is_repaired(work: &mut [u8], s: Setting, cut: Book) -> bool {
-    bench::finish(work, s, Command::Repair);
-    book::reads_as(book::read_book(work, s), cut) & book::pairs_agree(work, s)
+fn is_repaired(work: &mut [u8], setting: Setting, cut: Book) -> bool {
+    bench::finish(work, setting, Command::Repair);
+    book::reads_as(book::read_book(work, setting), cut) & book::pairs_agree(work, setting)
 }
 
 // A further command leaves what the book says.
-fn is_right_then(work: &mut [u8], s: Setting, cut: Book) -> bool {
+fn is_right_then(work: &mut [u8], setting: Setting, cut: Book) -> bool {
     let next = further(cut);
-    let long = is_long(bench::finish(work, s, next));
-    let held = book::reads_as(book::read_book(work, s), book::booked(cut, next));
-    long & (held & book::pairs_agree(work, s))
+    let long = is_long(bench::finish(work, setting, next));
+    let held = book::reads_as(book::read_book(work, setting), book::booked(cut, next));
+    long & (held & book::pairs_agree(work, setting))
 }
 
 fn try_cut(
     flash: &[u8],
     work: &mut [u8],
-    s: Setting,
+    setting: Setting,
     at: usize,
     k: usize,
     old: Book,
     new: Book,
     t: Tally,
 ) -> Tally {
-    let read = cut_flash(flash, work, s, at, k);
+    let read = cut_flash(flash, work, setting, at, k);
     let cut = read.book;
-    let repaired = is_repaired(work, s, cut);
-    let right = is_right_then(work, s, cut);
+    let repaired = is_repaired(work, setting, cut);
+    let right = is_right_then(work, setting, cut);
     tally::counted(
         t,
         book::reads_as(read, old),
@@ -133,17 +133,26 @@ fn wiped_bytes(cut: usize, granule: usize) -> usize {
 fn try_erase(
     flash: &[u8],
     work: &mut [u8],
-    s: Setting,
+    setting: Setting,
     at: usize,
     old: Book,
     new: Book,
     t: Tally,
 ) -> Tally {
-    let count = erase_cuts(s.granule);
+    let count = erase_cuts(setting.granule);
     let mut sum = t;
     let mut i = 0;
     while i < count {
-        sum = try_cut(flash, work, s, at, wiped_bytes(i, s.granule), old, new, sum);
+        sum = try_cut(
+            flash,
+            work,
+            setting,
+            at,
+            wiped_bytes(i, setting.granule),
+            old,
+            new,
+            sum,
+        );
         i += 1;
     }
     sum
@@ -153,7 +162,7 @@ fn try_erase(
 fn try_next(
     flash: &[u8],
     work: &mut [u8],
-    s: Setting,
+    setting: Setting,
     next: Next,
     old: Book,
     new: Book,
@@ -162,8 +171,8 @@ fn try_next(
     match next {
         Next::Finished => t,
         Next::Is(step) => match step {
-            Step::Program(_, _) => try_cut(flash, work, s, 0, 0, old, new, t),
-            Step::Erase(at) => try_erase(flash, work, s, at, old, new, t),
+            Step::Program(_, _) => try_cut(flash, work, setting, 0, 0, old, new, t),
+            Step::Erase(at) => try_erase(flash, work, setting, at, old, new, t),
         },
     }
 }
@@ -180,7 +189,7 @@ fn one_step(job: Job, flash: &mut [u8]) -> Job {
 fn try_job(
     flash: &mut [u8],
     work: &mut [u8],
-    s: Setting,
+    setting: Setting,
     first: Job,
     old: Book,
     new: Book,
@@ -190,7 +199,7 @@ fn try_job(
     let mut sum = tally::nothing();
     let mut n = 0;
     while n < count {
-        sum = try_next(flash, work, s, jobs::next_step(job), old, new, sum);
+        sum = try_next(flash, work, setting, jobs::next_step(job), old, new, sum);
         job = one_step(job, flash);
         n += 1;
     }
@@ -198,68 +207,68 @@ fn try_job(
 }
 
 // Starts a command on an image, and tries every cut of its job on a flash that starts as this image.
-fn try_start(image: &[u8], flash: &mut [u8], work: &mut [u8], s: Setting, command: Command) {
+fn try_start(image: &[u8], flash: &mut [u8], work: &mut [u8], setting: Setting, command: Command) {
     copy(image, flash);
-    let read = book::read_book(image, s);
+    let read = book::read_book(image, setting);
     let old = read.book;
-    let begun = bench::begin(image, s, command);
+    let begun = bench::begin(image, setting, command);
     let job = begun.job;
     let answer = begun.answer;
-    let sum = try_job(flash, work, s, job, old, book::booked(old, command));
+    let sum = try_job(flash, work, setting, job, old, book::booked(old, command));
     printing::print_result(answer, jobs::remaining(job), sum);
 }
 
-fn try_command(image: &[u8], s: Setting, command: Command) {
+fn try_command(image: &[u8], setting: Setting, command: Command) {
     let n = image.len();
     if LONGEST < n {
         return;
     }
     let mut flash = image_buffer();
     let mut work = image_buffer();
-    try_start(image, &mut flash[..n], &mut work[..n], s, command);
+    try_start(image, &mut flash[..n], &mut work[..n], setting, command);
 }
 
 // ---- all of them
 
-fn try_slot(image: &[u8], s: Setting, slot: SlotNo) {
+fn try_slot(image: &[u8], setting: Setting, slot: SlotNo) {
     printing::print_command(b"enable ", slot);
-    try_command(image, s, Command::Enable(slot));
+    try_command(image, setting, Command::Enable(slot));
     printing::print_command(b"disable ", slot);
-    try_command(image, s, Command::Disable(slot));
+    try_command(image, setting, Command::Disable(slot));
     printing::print_command(b"rename ", slot);
-    try_command(image, s, Command::Rename(slot));
+    try_command(image, setting, Command::Rename(slot));
 }
 
-fn try_image(image: &[u8], s: Setting) {
-    try_slot(image, s, SlotNo(0));
-    try_slot(image, s, SlotNo(1));
-    try_slot(image, s, SlotNo(2));
+fn try_image(image: &[u8], setting: Setting) {
+    try_slot(image, setting, SlotNo(0));
+    try_slot(image, setting, SlotNo(1));
+    try_slot(image, setting, SlotNo(2));
     io::write_all(STDOUT_FILENO, b"repair: ");
-    try_command(image, s, Command::Repair);
+    try_command(image, setting, Command::Repair);
 }
 
-fn try_file(path: &[u8], s: Setting) {
-    printing::print_image(path, erase_cuts(s.granule));
+fn try_file(path: &[u8], setting: Setting) {
+    printing::print_image(path, erase_cuts(setting.granule));
     let mut image = image_buffer();
     let fd = os::open_read(path);
     let n = io::read_full(fd, &mut image);
     libc::close(fd);
-    try_image(&image[..n], s);
+    try_image(&image[..n], setting);
 }
 
 fn main() {
-    let s = Setting {
+    let setting = Setting {
         granule: SMALLEST,
         spt0: 0x4000,
         spt1: 0x5000,
     };
-    try_file(b"quarry.img", s);
-    try_file(b"highest_506.img", s);
-    try_file(b"highest_507.img", s);
-    try_file(b"moved.img", s);
-    try_file(b"moved_three.img", s);
-    try_file(b"first_copies_damaged.img", s);
-    try_file(b"second_copies_damaged.img", s);
+    try_file(b"quarry.img", setting);
+    try_file(b"highest_506.img", setting);
+    try_file(b"highest_507.img", setting);
+    try_file(b"moved.img", setting);
+    try_file(b"moved_three.img", setting);
+    try_file(b"first_copies_damaged.img", setting);
+    try_file(b"second_copies_damaged.img", setting);
     let wide = Setting {
         granule: 65536,
         spt0: 0x20000,

@@ -34,9 +34,9 @@ fn print_tally(steps: usize, t: Tally) {
 
 pub fn print_result(answer: Outcome, steps: usize, t: Tally) {
     match answer {
-        Outcome::Refused(number) => {
+        Outcome::Refused(why) => {
             io::write_all(STDOUT_FILENO, b"refused ");
-            print_count(number as u64, b"\n");
+            print_count(why.number as u64, b"\n");
         }
         Outcome::Started => print_tally(steps, t),
     }

@@ -8,7 +8,7 @@ use lib.Dec.{eqb, ltb}
 use lib.ListN.{take, drop, length, getD, replicate}
 use Rattle.rules.specs.Lists.{same, without, pairwise, keep, first}
 use Rattle.rules.specs.Bytes.{little-endian, bytes-of, field, block, up-to-zero, multiple}
-use Rattle.rules.specs.Answers.{refused, given, unless, _>>=_}
+use Rattle.rules.specs.Answers.{refused, given, unless, _>>=_, numbered}
 use Rattle.rules.specs.Numbers.{setting, length-right, granule-right, addresses-right}
 use Rattle.rules.specs.Table.{Entry, entry, entry-count, entries, spt0-name, cpb0-name, cpb1-name, has-name, is-fixed-name, no-entry, named, cpb0-of, header-right, count-right, name-right, names-differ, range-aligned, range-inside, ranges-apart, six-named, boot-info-at-0, tables-as-told, on-granules, blocks-on-granules, table-stands, is-slot, starts}
 use Rattle.rules.specs.Pointers.{pointers-stand, places, erased-value, judged, order}
@@ -68,7 +68,7 @@ list-and-byte-examples = (refl, refl, refl, refl, refl, refl, refl, refl, refl, 
 -- ---- answers, and refusals 1 to 3
 
 number-examples :
-    ((unless 7 false (given three-starts) >>= λ a. given (length a)) ≡ refused 7)
+    ((unless 7 false (given three-starts) >>= λ a. given (length a)) ≡ refused (numbered 7))
     × ((unless 7 true (given three-starts) >>= λ a. given (length a)) ≡ given 3)
     × (map length-right (0 ∷ 4096 ∷ 4097 ∷ 268435456 ∷ 268439552 ∷ []) ≡ false ∷ true ∷ false ∷ true ∷ false ∷ [])
     × (map granule-right (4096 ∷ 8192 ∷ 32768 ∷ 65536 ∷ []) ≡ true ∷ false ∷ true ∷ true ∷ [])
@@ -139,7 +139,7 @@ pointer-examples = (refl, refl, refl, refl, refl)
 copy-and-dump-examples :
     (copy-read 4 begins-with-1 (1 ∷ 1 ∷ []) 0 1 ≡ given 0)
     × (copy-read 4 begins-with-1 (2 ∷ 1 ∷ []) 0 1 ≡ given 1)
-    × (copy-read 4 begins-with-1 (2 ∷ 2 ∷ []) 0 1 ≡ refused 4)
+    × (copy-read 4 begins-with-1 (2 ∷ 2 ∷ []) 0 1 ≡ refused (numbered 4))
     × (pair-agrees begins-with-1 (1 ∷ 1 ∷ []) 0 1 ≡ false)
     × (map (λ b. pair-agrees begins-with-1 (b ∷ []) 0 0) (1 ∷ 2 ∷ []) ≡ true ∷ false ∷ [])
     × (standing-dump (quarry-pointers []) (quarry-pointers (0 ∷ [])) ≡ quarry-pointers [])
@@ -154,9 +154,9 @@ copy-and-dump-examples = (refl, refl, refl, refl, refl, refl, refl, refl, refl, 
 
 reader-examples :
     (order-in (1 ∷ 0 ∷ []) 2 ≡ given (1 ∷ 0 ∷ []))
-    × (order-in (1 ∷ 0 ∷ []) 1 ≡ refused 13)
+    × (order-in (1 ∷ 0 ∷ []) 1 ≡ refused (numbered 13))
     × (row-after (given (1 ∷ 0 ∷ [])) (7 ∷ 8 ∷ 9 ∷ []) ≡ 1 ∷ 0 ∷ 9 ∷ [])
-    × (row-after (refused 13) (7 ∷ 8 ∷ 9 ∷ []) ≡ 7 ∷ 8 ∷ 9 ∷ [])
+    × (row-after (refused (numbered 13)) (7 ∷ 8 ∷ 9 ∷ []) ≡ 7 ∷ 8 ∷ 9 ∷ [])
     × (map (slot-row (entries table)) (0 ∷ 2 ∷ 3 ∷ []) ≡ 6 ∷ 8 ∷ 9 ∷ [])
     × (facts (entries table) 1 .start ≡ 0x9000)
     × (map (name-in (entries table)) (1 ∷ 3 ∷ []) ≡ (80 ∷ 50 ∷ []) ∷ [] ∷ [])
@@ -219,10 +219,10 @@ run-and-cut-examples :
     × (run 1 1 (at (7 ∷ []) (Erase 0 ∷ Program 0 3 ∷ [])) ≡ at (0xFF ∷ []) (Program 0 3 ∷ []))
     × (run 1 9 (at (7 ∷ []) (Erase 0 ∷ Program 0 3 ∷ [])) ≡ at (3 ∷ []) [])
     × (runs 1 (1 ∷ 0 ∷ 1 ∷ []) (at (7 ∷ []) (Erase 0 ∷ Program 0 3 ∷ [])) ≡ at (3 ∷ []) [])
-    × (may-run 1 2 (at (7 ∷ []) []) ≡ refused 11)
-    × (may-run 1 2 (at (7 ∷ []) (Program 0 3 ∷ [])) ≡ refused 12)
-    × (may-run 1 1 (at (7 ∷ []) (Program 0 3 ∷ Program 1 3 ∷ [])) ≡ refused 12)
-    × (may-run 2 1 (at (7 ∷ []) (Erase 0 ∷ [])) ≡ refused 12)
+    × (may-run 1 2 (at (7 ∷ []) []) ≡ refused (numbered 11))
+    × (may-run 1 2 (at (7 ∷ []) (Program 0 3 ∷ [])) ≡ refused (numbered 12))
+    × (may-run 1 1 (at (7 ∷ []) (Program 0 3 ∷ Program 1 3 ∷ [])) ≡ refused (numbered 12))
+    × (may-run 2 1 (at (7 ∷ []) (Erase 0 ∷ [])) ≡ refused (numbered 12))
     × (may-run 1 1 (at (7 ∷ []) (Erase 0 ∷ [])) ≡ given (at (7 ∷ []) (Erase 0 ∷ [])))
     × (half-done 3 2 (Erase 0 ∷ []) (1 ∷ 2 ∷ 3 ∷ []) ≡ 0xFF ∷ 0xFF ∷ 3 ∷ [])
     × (half-done 3 9 (Erase 0 ∷ []) (1 ∷ 2 ∷ 3 ∷ 4 ∷ []) ≡ 0xFF ∷ 0xFF ∷ 0xFF ∷ 4 ∷ [])

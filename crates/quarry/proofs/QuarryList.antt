@@ -13,7 +13,7 @@ use lib.Seq.{drop-drop, take-nil}
 use Rattle.rules.specs.Lists.{all}
 use Rattle.rules.specs.Bytes.{Bytes}
 use Rattle.rules.specs.Answers.{Answer, refused, given}
-use Rattle.rules.specs.Numbers.{Setting}
+use Rattle.rules.specs.declared.Setting.{Setting}
 use Rattle.rules.specs.Copies.{pairs-agree}
 use Rattle.rules.specs.Steps.{step, steps}
 use Rattle.rules.specs.Commands.{Command, enable, disable, repair, start}

@@ -65,9 +65,9 @@ takes-place k ss =
     first-programs (place-address quarry-cpb1 k) ss && first-programs (place-address quarry-cpb0 k) (drop 8 ss)
 
 unfoldable pub as-expected : Answer (List Step) → Expected → Bool
-as-expected (refused m) (refusal n) = eqb m n
-as-expected (refused m) (step-count n) = false
-as-expected (refused m) (place k) = false
+as-expected (refused why) (refusal n) = eqb (why .number) n
+as-expected (refused why) (step-count n) = false
+as-expected (refused why) (place k) = false
 as-expected (given ss) (refusal n) = false
 as-expected (given ss) (step-count n) = eqb (length ss) n
 as-expected (given ss) (place k) = takes-place k ss

@@ -3,7 +3,8 @@ use mathlib.Core.List.{List, [], _∷_, _++_}
 use Prim.Native.Nat.{ℕ, zero, suc, _+_, _*_, _-_}
 use lib.ListN.{take, drop, length, replicate}
 use Rattle.rules.specs.Bytes.{bytes-of, block-size, erased-byte}
-use Rattle.rules.specs.Numbers.{Setting, setting}
+use Rattle.rules.specs.Numbers.{setting}
+use Rattle.rules.specs.declared.Setting.{Setting}
 use Rattle.rules.specs.Table.{boot-info, factory-image, spt0-name, spt1-name, cpb0-name, cpb1-name}
 use Rattle.rules.specs.Pointers.{erased-value}
 use Rattle.rules.specs.Commands.{pointer-bytes}

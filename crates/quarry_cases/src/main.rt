@@ -1,9 +1,9 @@
 // Runs the cases of document 01 on the images under data/ and prints what happens.
-use book::Command;
-use book::Setting;
+use commands::Command;
 use jobs::Next;
 use libc::STDOUT_FILENO;
 use rules::PlaceNo;
+use rules::Setting;
 use rules::SlotNo;
 use rules::Step;
 ghost use mathlib.Core.Path.{_≡_};
@@ -41,8 +41,7 @@ fn finish(image: &mut [u8], command: Command) {
 }
 
 fn finish_rename(image: &mut [u8], name: &[u8]) {
-    let s = quarry();
-    let begun = commands::start_rename(image, s.granule, s.spt0, s.spt1, SlotNo(0), name);
+    let begun = commands::start_rename(image, quarry(), SlotNo(0), name);
     io::write_all(STDOUT_FILENO, b"rename 0 ");
     io::write_all(STDOUT_FILENO, name);
     io::write_all(STDOUT_FILENO, b": ");

@@ -1,12 +1,13 @@
 // What the cases print.
 use bench::Done;
 use book::Answer;
-use book::Command;
-use book::Setting;
 use book::order::Order;
 use book::order::ROOM;
+use commands::Command;
 use libc::STDOUT_FILENO;
 use rules::PlaceNo;
+use rules::Refusal;
+use rules::Setting;
 use rules::SlotNo;
 
 fn print_named(what: &[u8], slot: SlotNo) {
@@ -32,13 +33,13 @@ pub fn print_done(done: Done) {
             io::print_decimal(STDOUT_FILENO, n as u64);
             io::write_all(STDOUT_FILENO, b" steps\n");
         }
-        Done::Refused(number) => print_refusal(number),
+        Done::Refused(why) => print_refusal(why),
     }
 }
 
-fn print_refusal(number: u8) {
+fn print_refusal(why: Refusal) {
     io::write_all(STDOUT_FILENO, b"refused ");
-    io::print_decimal(STDOUT_FILENO, number as u64);
+    io::print_decimal(STDOUT_FILENO, why.number as u64);
     io::write_all(STDOUT_FILENO, b"\n");
 }
 
@@ -51,13 +52,13 @@ pub fn print_cut(steps: usize, k: usize) {
 }
 
 // The boot order, or the refusal.
-pub fn print_order(image: &[u8], s: Setting) {
-    let read = book::read_book(image, s);
+pub fn print_order(image: &[u8], setting: Setting) {
+    let read = book::read_book(image, setting);
     let answer = read.answer;
     let kept = read.book;
     let order = kept.order;
     match answer {
-        Answer::Refused(number) => print_refusal(number),
+        Answer::Refused(why) => print_refusal(why),
         Answer::Given => {
             io::write_all(STDOUT_FILENO, b"order");
             print_slots(order);

@@ -11,7 +11,7 @@ use lib.ListN.{length}
 use Rattle.rules.specs.Lists.{keep}
 use Rattle.rules.specs.Bytes.{little-endian, field, block}
 use Rattle.rules.specs.Answers.{Answer, refused, given, unless, _>>=_}
-use Rattle.rules.specs.Numbers.{Setting}
+use Rattle.rules.specs.declared.Setting.{Setting}
 use Rattle.rules.specs.Table.{entries-from, entry-count, entries, name, name-right, slots, no-entry}
 use Rattle.rules.specs.Copies.{view}
 use Rattle.rules.specs.Readers.{table-of, table-part, slot-row, slot-entry, slot-there, slot-facts, name-in, slot-name}

@@ -1,5 +1,5 @@
 pub mod Views
 pub mod Seen
-pub mod ByView
+pub mod Opening
 pub mod SlotFacts
 pub mod Empty

@@ -10,7 +10,8 @@ use borrow.Author.Tests.{leb-true}
 use lib.ListN.{length}
 use Rattle.rules.specs.Bytes.{block, block-size, multiple}
 use Rattle.rules.specs.Answers.{given}
-use Rattle.rules.specs.Numbers.{Setting, length-right, granule-right, address-right, addresses-right}
+use Rattle.rules.specs.Numbers.{length-right, granule-right, address-right, addresses-right}
+use Rattle.rules.specs.declared.Setting.{Setting}
 use Rattle.rules.specs.Table.{cpb0-of, cpb1-of, table-stands}
 use Rattle.rules.specs.Pointers.{pointers-stand}
 use Rattle.rules.specs.Copies.{copy-read, table-read, pointers-read, view-through, view}

@@ -5,8 +5,9 @@ use mathlib.Core.List.{List}
 use Prim.Native.Nat.{ℕ}
 use lib.ListN.{length}
 use Rattle.rules.specs.Bytes.{block}
-use Rattle.rules.specs.Answers.{refused, given, unless, _>>=_}
-use Rattle.rules.specs.Numbers.{Setting, length-right, granule-right, addresses-right}
+use Rattle.rules.specs.Answers.{refused, given, numbered, unless, _>>=_}
+use Rattle.rules.specs.Numbers.{length-right, granule-right, addresses-right}
+use Rattle.rules.specs.declared.Setting.{Setting}
 use Rattle.rules.specs.Table.{cpb0-of, cpb1-of, table-stands}
 use Rattle.rules.specs.Pointers.{pointers-stand}
 use Rattle.rules.specs.Copies.{copy-read, table-read, pointers-read, view-through, view}
@@ -38,24 +39,24 @@ module _ (s : Setting) (img : List ℕ) (at : ℕ) where
     unfolding view-through pointers-read copy-read _>>=_ unless
     through-cpb1 h = rw (no0, h)
 
-    pub refused-5 : pointers-stand (block img (cpb1-of (block img at))) ≡ false → view-through s img at ≡ refused 5
+    pub refused-5 : pointers-stand (block img (cpb1-of (block img at))) ≡ false → view-through s img at ≡ refused (numbered 5)
     unfolding view-through pointers-read copy-read _>>=_ unless
     refused-5 h = rw (no0, h)
 
 -- ---- the refusals in their order
 
 module _ (s : Setting) (img : List ℕ) where
-  pub refused-1 : length-right (length img) ≡ false → view s img ≡ refused 1
+  pub refused-1 : length-right (length img) ≡ false → view s img ≡ refused (numbered 1)
   unfolding view unless
   refused-1 h = rw h
 
   module _ (long : length-right (length img) ≡ true) where
-    pub refused-2 : granule-right (s .granule) ≡ false → view s img ≡ refused 2
+    pub refused-2 : granule-right (s .granule) ≡ false → view s img ≡ refused (numbered 2)
     unfolding view unless
     refused-2 h = rw (long, h)
 
     module _ (grained : granule-right (s .granule) ≡ true) where
-      pub refused-3 : addresses-right s (length img) ≡ false → view s img ≡ refused 3
+      pub refused-3 : addresses-right s (length img) ≡ false → view s img ≡ refused (numbered 3)
       unfolding view unless
       refused-3 h = rw (long, grained, h)
 
@@ -71,6 +72,6 @@ module _ (s : Setting) (img : List ℕ) where
           unfolding view unless table-read copy-read _>>=_
           through-spt1 h = rw (long, grained, placed, no0, h)
 
-          pub refused-4 : table-stands s (length img) (block img (s .spt1)) ≡ false → view s img ≡ refused 4
+          pub refused-4 : table-stands s (length img) (block img (s .spt1)) ≡ false → view s img ≡ refused (numbered 4)
           unfolding view unless table-read copy-read _>>=_
           refused-4 h = rw (long, grained, placed, no0, h)

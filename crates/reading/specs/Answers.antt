@@ -18,12 +18,12 @@ use Rattle.reading.specs.declared.Known.the-variants.{Is, Refused as Not
 -- where things are, or refused 1 to 5
 unfoldable pub viewed : Viewed → Answer View
 viewed (At v) = given v
-viewed (NotViewed n) = refused n
+viewed (NotViewed why) = refused why
 
 -- how many slot numbers were written, or refused 1 to 5 or 13
 unfoldable pub listed : Listed → Answer ℕ
 listed (Count n) = given n
-listed (NotListed n) = refused n
+listed (NotListed why) = refused why
 
 -- the count of an order that is given
 unfoldable pub count-of : Answer (List ℕ) → Answer ℕ
@@ -32,14 +32,14 @@ count-of a = a >>= λ o. given (length o)
 -- how many application slots there are, or refused 1 to 5
 unfoldable pub counted : Counted → Answer ℕ
 counted (Slots n) = given n
-counted (NotCounted n) = refused n
+counted (NotCounted why) = refused why
 
 -- what is known of a slot, or refused 1 to 5 or 7
 unfoldable pub known : Known → Answer Facts
 known (Is f) = given f
-known (NotKnown n) = refused n
+known (NotKnown why) = refused why
 
 -- the answer is a refusal
 unfoldable pub is-refused : {A : Type 0} → Answer A → Bool
-is-refused (refused n) = true
+is-refused (refused why) = true
 is-refused (given a) = false

@@ -5,11 +5,12 @@ mod order; // the boot order by two blocks, and refusal 13
 mod facts; // one slot by a table, and refusal 7
 
 use rules::Facts;
+use rules::Refusal;
+use rules::Setting;
 use rules::SlotNo;
 use rules::View;
 ghost use mathlib.Core.Path.{_≡_};
 ghost use lib.ListN.{length};
-ghost use Rattle.rules.specs.Numbers.{setting};
 ghost use Rattle.rules.specs.Copies.{view};
 ghost use Rattle.rules.specs.Readers.{order-list, row-after, table-part, slot-count, slot-facts, slot-name};
 ghost use Rattle.reading.specs.Answers.{viewed, listed, count-of, counted, known};
@@ -17,55 +18,55 @@ ghost use Rattle.reading.specs.Answers.{viewed, listed, count-of, counte
 // Where things are, or a refusal.
 pub enum Viewed {
     At(View),
-    Refused(u8),
+    Refused(Refusal),
 }
 
 // How many slot numbers the order list wrote, or a refusal.
 pub enum Listed {
     Count(usize),
-    Refused(u8),
+    Refused(Refusal),
 }
 
 // How many application slots there are, or a refusal.
 pub enum Counted {
     Slots(usize),
-    Refused(u8),
+    Refused(Refusal),
 }
 
 // What is known of a slot, or a refusal.
 pub enum Known {
     Is(Facts),
-    Refused(u8),
+    Refused(Refusal),
 }
 
 // Refusals 1 to 5, or where things are and which copies are read.
-pub fn view(image: &[u8], granule: usize, spt0: usize, spt1: usize) -> Viewed
-    ensures { λ r. ⌜ viewed r ≡ view (setting granule spt0 spt1) (now (image .entry)) ⌝ }
+pub fn view(image: &[u8], setting: Setting) -> Viewed
+    ensures { λ r. ⌜ viewed r ≡ view setting (now (image .entry)) ⌝ }
 {
     let len = image.len();
     if !numbers::length_right(len) {
-        return Viewed::Refused(1);
+        return Viewed::Refused(Refusal { number: 1 });
     }
-    if !numbers::granule_right(granule) {
-        return Viewed::Refused(2);
+    if !numbers::granule_right(setting.granule) {
+        return Viewed::Refused(Refusal { number: 2 });
     }
-    if !numbers::addresses_right(granule, len, spt0, spt1) {
-        return Viewed::Refused(3);
+    if !numbers::addresses_right(setting, len) {
+        return Viewed::Refused(Refusal { number: 3 });
     }
-    if table::table_stands(image, spt0, granule, spt0, spt1) {
-        return copies::view_through(image, spt0, spt1, spt0);
+    if table::table_stands(image, setting.spt0, setting) {
+        return copies::view_through(image, setting, setting.spt0);
     }
-    if table::table_stands(image, spt1, granule, spt0, spt1) {
-        return copies::view_through(image, spt0, spt1, spt1);
+    if table::table_stands(image, setting.spt1, setting) {
+        return copies::view_through(image, setting, setting.spt1);
     }
-    Viewed::Refused(4)
+    Viewed::Refused(Refusal { number: 4 })
 }
 
 // The 4,096 bytes of the table copy read, as a part of the image; an empty part when refused.
-pub fn table_read(image: &[u8], granule: usize, spt0: usize, spt1: usize) -> &[u8]
-    ensures { λ r. ⌜ now r ≡ table-part (setting granule spt0 spt1) (now (image .entry)) ⌝ }
+pub fn table_read(image: &[u8], setting: Setting) -> &[u8]
+    ensures { λ r. ⌜ now r ≡ table-part setting (now (image .entry)) ⌝ }
 {
-    let seen = view(image, granule, spt0, spt1);
+    let seen = view(image, setting);
     match seen {
         Viewed::Refused(_) => &image[..0],
         Viewed::At(v) => {
@@ -76,15 +77,15 @@ pub fn table_read(image: &[u8], granule: usize, spt0: usize, spt1: usize) -> &[u
 }
 
 // The boot order's slot numbers into the front of the row, or a refusal, which leaves the row as it was.
-pub fn order_list(image: &[u8], granule: usize, spt0: usize, spt1: usize, row: &mut [u32]) -> Listed
+pub fn order_list(image: &[u8], setting: Setting, row: &mut [u32]) -> Listed
     ensures answer { λ r. ⌜ listed r
-        ≡ count-of (order-list (setting granule spt0 spt1) (now (image .entry)) (length (now (row .entry)))) ⌝ }
+        ≡ count-of (order-list setting (now (image .entry)) (length (now (row .entry)))) ⌝ }
     ensures written { λ r. ⌜ now (row .exit) ≡ row-after
-        (order-list (setting granule spt0 spt1) (now (image .entry)) (length (now (row .entry)))) (now (row .entry)) ⌝ }
+        (order-list setting (now (image .entry)) (length (now (row .entry)))) (now (row .entry)) ⌝ }
 {
-    let seen = view(image, granule, spt0, spt1);
+    let seen = view(image, setting);
     match seen {
-        Viewed::Refused(no) => Listed::Refused(no),
+        Viewed::Refused(why) => Listed::Refused(why),
         Viewed::At(v) => {
             let table_at = v.table;
             let pointers_at = v.pointers;
@@ -96,12 +97,12 @@ pub fn order_list(image: &[u8], granule: usize, spt0: usize, spt1: usize, row: &
 }
 
 // How many application slots the table read has.
-pub fn slot_count(image: &[u8], granule: usize, spt0: usize, spt1: usize) -> Counted
-    ensures { λ r. ⌜ counted r ≡ slot-count (setting granule spt0 spt1) (now (image .entry)) ⌝ }
+pub fn slot_count(image: &[u8], setting: Setting) -> Counted
+    ensures { λ r. ⌜ counted r ≡ slot-count setting (now (image .entry)) ⌝ }
 {
-    let seen = view(image, granule, spt0, spt1);
+    let seen = view(image, setting);
     match seen {
-        Viewed::Refused(no) => Counted::Refused(no),
+        Viewed::Refused(why) => Counted::Refused(why),
         Viewed::At(v) => {
             let at = v.table;
             let t = fields::block_at(image, at);
@@ -113,12 +114,12 @@ pub fn slot_count(image: &[u8], granule: usize, spt0: usize, spt1: usize) -> Cou
 }
 
 // The entry number, start, length and flags of a slot.
-pub fn slot_facts(image: &[u8], granule: usize, spt0: usize, spt1: usize, slot: SlotNo) -> Known
-    ensures { λ r. ⌜ known r ≡ slot-facts (setting granule spt0 spt1) (now (image .entry)) (slot .0) ⌝ }
+pub fn slot_facts(image: &[u8], setting: Setting, slot: SlotNo) -> Known
+    ensures { λ r. ⌜ known r ≡ slot-facts setting (now (image .entry)) (slot .0) ⌝ }
 {
-    let seen = view(image, granule, spt0, spt1);
+    let seen = view(image, setting);
     match seen {
-        Viewed::Refused(no) => Known::Refused(no),
+        Viewed::Refused(why) => Known::Refused(why),
         Viewed::At(v) => {
             let at = v.table;
             let t = fields::block_at(image, at);
@@ -128,10 +129,10 @@ pub fn slot_facts(image: &[u8], granule: usize, spt0: usize, spt1: usize, slot: 
 }
 
 // The name of a slot up to its zero, as a part of the image; an empty part when refused.
-pub fn slot_name(image: &[u8], granule: usize, spt0: usize, spt1: usize, slot: SlotNo) -> &[u8]
-    ensures { λ r. ⌜ now r ≡ slot-name (setting granule spt0 spt1) (now (image .entry)) (slot .0) ⌝ }
+pub fn slot_name(image: &[u8], setting: Setting, slot: SlotNo) -> &[u8]
+    ensures { λ r. ⌜ now r ≡ slot-name setting (now (image .entry)) (slot .0) ⌝ }
 {
-    let seen = view(image, granule, spt0, spt1);
+    let seen = view(image, setting);
     match seen {
         Viewed::Refused(_) => &image[..0],
         Viewed::At(v) => {

@@ -1,7 +1,8 @@
 // Refusals 1 to 3: the image's length, the granule, and the addresses that the caller gives.
+use rules::Setting;
 ghost use mathlib.Core.Path.{_≡_};
 ghost use Prim.Native.Nat.{_<_};
-ghost use Rattle.rules.specs.Numbers.{setting, length-right, granule-right, address-right, addresses-right};
+ghost use Rattle.rules.specs.Numbers.{length-right, granule-right, address-right, addresses-right};
 
 // The unit and the least length of an image, and the greatest.
 const BLOCK_SIZE: usize = fields::BLOCK_SIZE;
@@ -28,9 +29,12 @@ fn address_right(granule: usize, len: usize, at: usize) -> bool
     (at % granule == 0) & table::ends_by(at as u64, granule as u64, len as u64)
 }
 
-pub fn addresses_right(granule: usize, len: usize, spt0: usize, spt1: usize) -> bool
-    requires { ⌜ 0 < granule ⌝ }
-    ensures { λ r. ⌜ r ≡ addresses-right (setting granule spt0 spt1) len ⌝ }
+pub fn addresses_right(setting: Setting, len: usize) -> bool
+    requires { ⌜ 0 < setting .granule ⌝ }
+    ensures { λ r. ⌜ r ≡ addresses-right setting len ⌝ }
 {
-    (spt0 != spt1) & address_right(granule, len, spt0) & address_right(granule, len, spt1)
+    let granule = setting.granule;
+    (setting.spt0 != setting.spt1)
+        & address_right(granule, len, setting.spt0)
+        & address_right(granule, len, setting.spt1)
 }

@@ -3,7 +3,7 @@ use super::bounds::least;
 use super::bounds::part_of;
 use super::desk;
 use super::desk::Desk;
-use super::desk::Setting;
+use rules::Setting;
 use script::Change;
 ghost use Prim.Native.Nat.{_+_, _≤_};
 ghost use lib.ListN.{length};
@@ -20,12 +20,6 @@ pub fn change(desk: Desk, room: &mut [u8], asked: Change, line: &[u8]) -> Desk {
     }
 }
 
-fn with_length(desk: Desk, length: usize) -> Desk {
-    let mut setting = desk.setting;
-    setting.length = length;
-    desk::with_setting(desk, setting)
-}
-
 pub fn fill(bytes: &mut [u8], byte: u8) {
     let mut i = 0;
     while i < bytes.len() {
@@ -39,21 +33,20 @@ fn new_image(desk: Desk, room: &mut [u8], length: usize, byte: u8) -> Desk {
         return desk::error(desk);
     }
     fill(&mut room[0..length], byte);
-    desk::without_job(with_length(desk, length))
+    desk::without_job(desk::with_length(desk, length))
 }
 
 fn new_length(desk: Desk, room: &mut [u8], length: usize) -> Desk {
     if room.len() < length {
         return desk::error(desk);
     }
-    let kept = least(desk.setting.length, length);
+    let kept = least(desk.length, length);
     fill(&mut room[kept..length], ERASED);
-    with_length(desk, length)
+    desk::with_length(desk, length)
 }
 
 fn new_setting(desk: Desk, granule: usize, spt0: usize, spt1: usize) -> Desk {
     let setting = Setting {
-        length: desk.setting.length,
         granule,
         spt0,
         spt1,
@@ -62,7 +55,7 @@ fn new_setting(desk: Desk, granule: usize, spt0: usize, spt1: usize) -> Desk {
 }
 
 fn put(desk: Desk, room: &mut [u8], at: usize, word: &[u8]) -> Desk {
-    let length = least(desk.setting.length, room.len());
+    let length = least(desk.length, room.len());
     let part = part_of(length, at, word.len() / 2);
     if !part.right {
         return desk::error(desk);
@@ -74,7 +67,7 @@ fn put(desk: Desk, room: &mut [u8], at: usize, word: &[u8]) -> Desk {
 }
 
 fn copy(desk: Desk, room: &mut [u8], from: usize, to: usize, n: usize) -> Desk {
-    let length = least(desk.setting.length, room.len());
+    let length = least(desk.length, room.len());
     if length < n {
         return desk::error(desk);
     }

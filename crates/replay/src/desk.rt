@@ -3,17 +3,12 @@ use super::printing;
 use jobs::Job;
 use jobs::Kind;
 use jobs::Plan;
+use rules::Setting;
 
-// The image's length, the granule and the addresses of the tables.
-pub struct Setting {
-    pub length: usize,
-    pub granule: usize,
-    pub spt0: usize,
-    pub spt1: usize,
-}
-
-// `busy`: there is a current job. `line`: the number of the line. `used`: how many of its bytes are read.
+// `length`: that of the image. `busy`: there is a current job. `line`: the number of the line. `used`: how many of its
+// bytes are read.
 pub struct Desk {
+    pub length: usize,
     pub setting: Setting,
     pub busy: bool,
     pub job: Job,
@@ -46,8 +41,8 @@ fn no_job() -> Job {
 pub fn new_desk() -> Desk {
     let job = no_job();
     Desk {
+        length: 0,
         setting: Setting {
-            length: 0,
             granule: 0,
             spt0: 0,
             spt1: 0,
@@ -58,6 +53,12 @@ pub fn new_desk() -> Desk {
         used: 0,
         ended: false,
     }
+}
+
+pub fn with_length(desk: Desk, length: usize) -> Desk {
+    let mut next = desk;
+    next.length = length;
+    next
 }
 
 pub fn with_setting(desk: Desk, setting: Setting) -> Desk {

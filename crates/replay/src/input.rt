@@ -85,8 +85,7 @@ fn do_line(desk: Desk, room: &mut [u8], line: &[u8]) -> Desk {
         Line::Nothing => desk,
         Line::Change(change) => changes::change(desk, room, change, line),
         Line::Question(question) => {
-            let setting = desk.setting;
-            if questions::ask(setting, room, question) {
+            if questions::ask(desk, room, question) {
                 return desk;
             }
             desk::error(desk)

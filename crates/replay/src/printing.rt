@@ -3,6 +3,7 @@ use super::bounds::least;
 use libc::STDOUT_FILENO;
 use rules::EntryNo;
 use rules::Facts;
+use rules::Refusal;
 use rules::SlotNo;
 use script::answers::put_number;
 
@@ -34,8 +35,8 @@ pub fn print_number(word: &[u8], number: u64) {
 }
 
 // The number of a refusal.
-pub fn print_refused(number: u8) {
-    print_number(b"refused", number as u64);
+pub fn print_refused(why: Refusal) {
+    print_number(b"refused", why.number as u64);
 }
 
 // Slot numbers in their order.

@@ -1,15 +1,17 @@
 // Lines that ask and change nothing. Each function answers whether the line was right.
 use super::bounds::least;
 use super::bounds::part_of;
-use super::desk::Setting;
+use super::desk::Desk;
 use super::printing;
 use reading::Known;
 use reading::Listed;
+use rules::Setting;
 use rules::SlotNo;
 use script::Question;
 
-pub fn ask(setting: Setting, room: &[u8], asked: Question) -> bool {
-    let length = least(setting.length, room.len());
+pub fn ask(desk: Desk, room: &[u8], asked: Question) -> bool {
+    let setting = desk.setting;
+    let length = least(desk.length, room.len());
     let image = &room[0..length];
     match asked {
         Question::Order(places) => tell_order(setting, image, places),
@@ -32,15 +34,9 @@ fn tell_order(setting: Setting, image: &[u8], places: usize) -> bool {
 
 fn tell_order_in(setting: Setting, image: &[u8], places: usize, row: &mut [u32]) -> bool {
     let n = least(places, row.len());
-    let listed = reading::order_list(
-        image,
-        setting.granule,
-        setting.spt0,
-        setting.spt1,
-        &mut row[0..n],
-    );
+    let listed = reading::order_list(image, setting, &mut row[0..n]);
     match listed {
-        Listed::Refused(number) => printing::print_refused(number),
+        Listed::Refused(why) => printing::print_refused(why),
         Listed::Count(count) => {
             let end = least(count, row.len());
             printing::print_order(&row[0..end]);
@@ -50,14 +46,11 @@ fn tell_order_in(setting: Setting, image: &[u8], places: usize, row: &mut [u32])
 }
 
 fn tell_slot(setting: Setting, image: &[u8], slot: SlotNo) -> bool {
-    let granule = setting.granule;
-    let spt0 = setting.spt0;
-    let spt1 = setting.spt1;
-    let known = reading::slot_facts(image, granule, spt0, spt1, slot);
+    let known = reading::slot_facts(image, setting, slot);
     match known {
-        Known::Refused(number) => printing::print_refused(number),
+        Known::Refused(why) => printing::print_refused(why),
         Known::Is(facts) => {
-            let name = reading::slot_name(image, granule, spt0, spt1, slot);
+            let name = reading::slot_name(image, setting, slot);
             printing::print_slot(slot, facts, name);
         }
     }

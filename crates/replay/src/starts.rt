@@ -2,21 +2,21 @@
 use super::bounds::least;
 use super::desk;
 use super::desk::Desk;
-use super::desk::Setting;
 use super::printing;
 use commands::Begun;
 use commands::Outcome;
+use rules::Setting;
 use rules::SlotNo;
 use script::Command;
 
 pub fn start(desk: Desk, room: &[u8], asked: Command, line: &[u8]) -> Desk {
     let setting = desk.setting;
-    let length = least(setting.length, room.len());
+    let length = least(desk.length, room.len());
     let begun = begin(setting, &room[0..length], asked, line);
     let outcome = begun.answer;
     match outcome {
-        Outcome::Refused(number) => {
-            printing::print_refused(number);
+        Outcome::Refused(why) => {
+            printing::print_refused(why);
             desk::without_job(desk)
         }
         Outcome::Started => {
@@ -28,17 +28,12 @@ pub fn start(desk: Desk, room: &[u8], asked: Command, line: &[u8]) -> Desk {
 }
 
 fn begin(setting: Setting, image: &[u8], asked: Command, line: &[u8]) -> Begun {
-    let granule = setting.granule;
-    let spt0 = setting.spt0;
-    let spt1 = setting.spt1;
     match asked {
-        Command::Enable(slot) => commands::start_enable(image, granule, spt0, spt1, slot),
-        Command::Disable(slot) => commands::start_disable(image, granule, spt0, spt1, slot),
+        Command::Enable(slot) => commands::start_enable(image, setting, slot),
+        Command::Disable(slot) => commands::start_disable(image, setting, slot),
         Command::Rename(slot) => begin_rename(setting, image, slot, script::last_word(line)),
-        Command::RenameToNothing(slot) => {
-            commands::start_rename(image, granule, spt0, spt1, slot, b"")
-        }
-        Command::Repair => commands::start_repair(image, granule, spt0, spt1),
+        Command::RenameToNothing(slot) => commands::start_rename(image, setting, slot, b""),
+        Command::Repair => commands::start_repair(image, setting),
     }
 }
 
@@ -61,12 +56,5 @@ fn begin_rename_to(
 ) -> Begun {
     let n = least(word.len() / 2, name.len());
     script::hex::decode(word, &mut name[0..n]);
-    commands::start_rename(
-        image,
-        setting.granule,
-        setting.spt0,
-        setting.spt1,
-        slot,
-        &name[0..n],
-    )
+    commands::start_rename(image, setting, slot, &name[0..n])
 }

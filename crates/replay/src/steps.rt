@@ -16,7 +16,7 @@ pub fn carry_out(desk: Desk, room: &mut [u8], asked: Steps) -> Desk {
     if !desk.busy {
         return desk::error(desk);
     }
-    let length = least(desk.setting.length, room.len());
+    let length = least(desk.length, room.len());
     match asked {
         Steps::Run(budget) => run(desk, &mut room[0..length], budget),
         Steps::Cut(n, bytes) => cut(desk, &mut room[0..length], n, bytes),
@@ -28,7 +28,7 @@ fn run(desk: Desk, image: &mut [u8], budget: usize) -> Desk {
     let ran = jobs::run(job, image, budget);
     let did = ran.did;
     match did {
-        Did::Refused(number) => printing::print_refused(number),
+        Did::Refused(why) => printing::print_refused(why),
         Did::Steps(n) => printing::print_number(b"ran", n as u64),
     }
     let after = ran.job;

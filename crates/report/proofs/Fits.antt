@@ -9,6 +9,7 @@ use lib.ListN.{length, take, drop, getD, length-append, length-map, length-take}
 use borrow.Author.Tests.{leb-true}
 use Rattle.rules.specs.Bytes.{up-to-zero}
 use Rattle.rules.specs.Answers.{Answer, refused, given}
+use Rattle.rules.specs.declared.Setting.{Setting}
 use Rattle.rules.specs.Table.{entry, entries-from, entries, name, no-entry}
 use Rattle.rules.specs.Copies.{view}
 use Rattle.rules.specs.Readers.{order-list, order-in, slot-facts, slot-name, name-in, slot-entry, slot-there, table-part}
@@ -45,73 +46,73 @@ entries-name-short zero bs i = omega arith
 entries-name-short (suc n) bs zero = omega (arith, up-to-zero-short (take 16 bs), length-take 16 bs, min-le-left 16 (length bs))
 entries-name-short (suc n) bs (suc i) = entries-name-short n (drop 32 bs) i
 
-slot-name-short : (img : List ℕ) (k : ℕ) → length (slot-name listing-setting img k) ≤ 16
+slot-name-short : (s : Setting) (img : List ℕ) (k : ℕ) → length (slot-name s img k) ≤ 16
 unfolding slot-name name-in slot-entry entries
-slot-name-short img k = by-cases (slot-there (entries (table-part listing-setting img)) k)
+slot-name-short s img k = by-cases (slot-there (entries (table-part s img)) k)
     (λ b. rw b (entries-name-short _ _ _))
     (λ b. rw b (omega arith))
 
 told-short : (a : Answer Facts) → length (told a) ≤ 43
 unfolding told
-told-short (refused n) = omega arith
+told-short (refused why) = omega arith
 told-short (given f) =
     let line = length-append (decimal (f .start)) (0x20 ∷ decimal (f .size) ++ (0x0A ∷ [])) in
     let rest = length-append (decimal (f .size)) (0x0A ∷ []) in
     omega (arith, line, rest, decimal-short (f .start), decimal-short (f .size))
 
-slot-line-short : (img : List ℕ) (rank k : ℕ) → length (slot-line img rank k) ≤ 101
+slot-line-short : (s : Setting) (img : List ℕ) (rank k : ℕ) → length (slot-line s img rank k) ≤ 101
 unfolding slot-line facts-text
-slot-line-short img rank k =
-    let shown-name = map shown (slot-name listing-setting img k) in
-    let rest = told (slot-facts listing-setting img k) in
+slot-line-short s img rank k =
+    let shown-name = map shown (slot-name s img k) in
+    let rest = told (slot-facts s img k) in
     omega (
       arith,
       length-append (decimal rank) (0x20 ∷ decimal k ++ (0x20 ∷ shown-name ++ rest)),
       length-append (decimal k) (0x20 ∷ shown-name ++ rest),
       length-append shown-name rest,
-      length-map (slot-name listing-setting img k) shown,
+      length-map (slot-name s img k) shown,
       decimal-short rank,
       decimal-short k,
-      slot-name-short img k,
-      told-short (slot-facts listing-setting img k),
+      slot-name-short s img k,
+      told-short (slot-facts s img k),
     )
 
 -- ---- the listing
 
-slot-lines-short : (img : List ℕ) (rank : ℕ) (ks : List ℕ) → length (slot-lines img rank ks) ≤ 101 * length ks
+slot-lines-short : (s : Setting) (img : List ℕ) (rank : ℕ) (ks : List ℕ) → length (slot-lines s img rank ks) ≤ 101 * length ks
 unfolding slot-lines
-slot-lines-short img rank [] = omega arith
-slot-lines-short img rank (k ∷ ks) =
+slot-lines-short s img rank [] = omega arith
+slot-lines-short s img rank (k ∷ ks) =
     omega (
       arith,
-      length-append (slot-line img rank k) (slot-lines img (suc rank) ks),
-      slot-line-short img rank k,
-      slot-lines-short img (suc rank) ks,
+      length-append (slot-line s img rank k) (slot-lines s img (suc rank) ks),
+      slot-line-short s img rank k,
+      slot-lines-short s img (suc rank) ks,
     )
 
 refusal-short : (n : ℕ) → length (refusal n) ≤ 65536
 unfolding refusal
 refusal-short n = omega (arith, length-append (decimal n) (0x0A ∷ []), decimal-short n)
 
-order-in-room : (img o : List ℕ) (room : ℕ) → order-list listing-setting img room ≡ given o → length o ≤ room
+order-in-room : (s : Setting) (img o : List ℕ) (room : ℕ) → order-list s img room ≡ given o → length o ≤ room
 unfolding order-list order-in
-order-in-room img o room h =
-    let (v, seen, listed) = bind-given (view listing-setting img) _ o h in
+order-in-room s img o room h =
+    let (v, seen, listed) = bind-given (view s img) _ o h in
     let (b, e) = unless-given 13 _ _ o listed in
     rw (given-inj _ o e) at (leb-true _ room b)
 
-listing-by-short : (img : List ℕ) (a : Answer (List ℕ))
+listing-by-short : (s : Setting) (img : List ℕ) (a : Answer (List ℕ))
     → ((o : List ℕ) → a ≡ given o → length o ≤ order-room)
-    → length (listing-by img a) ≤ 65536
+    → length (listing-by s img a) ≤ 65536
 unfolding listing-by header
-listing-by-short img (refused n) h = refusal-short n
-listing-by-short img (given o) h =
-    omega (arith, length-append header (slot-lines img 1 o), slot-lines-short img 1 o, h o refl)
+listing-by-short s img (refused why) h = refusal-short (why .number)
+listing-by-short s img (given o) h =
+    omega (arith, length-append header (slot-lines s img 1 o), slot-lines-short s img 1 o, h o refl)
 
 pub listing-short : (img : List ℕ) → length (listing img) ≤ 65536
 unfolding listing
 listing-short img = by-cases (leb (length img) 65536)
-    (λ b. rw b (listing-by-short img _ (λ o e. order-in-room img o order-room e)))
+    (λ b. rw b (listing-by-short listing-setting img _ (λ o e. order-in-room listing-setting img o order-room e)))
     (λ b. rw b (refusal-short 1))
 
 -- what the listing program prints is the whole listing

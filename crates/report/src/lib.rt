@@ -1,6 +1,7 @@
 // The listing of an image's boot order, as document 01 gives it, put into a lent buffer.
 use reading::Known;
 use reading::Listed;
+use rules::Setting;
 use rules::SlotNo;
 ghost use mathlib.Core.Path.{_≡_};
 ghost use Prim.Native.Nat.{_≤_};
@@ -25,13 +26,18 @@ pub fn listing_of(image: &[u8], out: &mut [u8]) -> usize
     if IMAGE_LIMIT < image.len() {
         return put_refusal(out, 1);
     }
+    let setting = Setting {
+        granule: GRANULE,
+        spt0: SPT0,
+        spt1: SPT1,
+    };
     let mut row = [0u32; 508];
-    let listed = reading::order_list(image, GRANULE, SPT0, SPT1, &mut row);
+    let listed = reading::order_list(image, setting, &mut row);
     match listed {
-        Listed::Refused(number) => put_refusal(out, number),
+        Listed::Refused(why) => put_refusal(out, why.number),
         Listed::Count(count) => {
             let end = text::put_bytes(out, 0, b"order slot name start length\n");
-            put_lines(image, &row, count, out, end)
+            put_lines(image, setting, &row, count, out, end)
         }
     }
 }
@@ -45,39 +51,49 @@ fn put_refusal(out: &mut [u8], number: u8) -> usize
 }
 
 // A line for each of the first `count` slots of the row.
-fn put_lines(image: &[u8], row: &[u32], count: usize, out: &mut [u8], at: usize) -> usize
+fn put_lines(
+    image: &[u8],
+    setting: Setting,
+    row: &[u32],
+    count: usize,
+    out: &mut [u8],
+    at: usize,
+) -> usize
     requires { ⌜ count ≤ length (now row) ⌝ }
-    ensures { λ r. ⌜ Put (now (out .entry)) at (slot-lines (now (image .entry)) 1 (take count (now (row .entry))))
+    ensures { λ r. ⌜ Put (now (out .entry)) at (slot-lines setting (now (image .entry)) 1 (take count (now (row .entry))))
         (now (out .exit)) r ⌝ }
 {
     let mut end = at;
     let mut i = 0;
     while i < count {
-        end = put_line(image, i + 1, SlotNo(row[i]), out, end);
+        end = put_line(image, setting, i + 1, SlotNo(row[i]), out, end);
         i += 1;
     }
     end
 }
 
-fn put_line(image: &[u8], rank: usize, slot: SlotNo, out: &mut [u8], at: usize) -> usize
-    ensures { λ r. ⌜ Put (now (out .entry)) at (slot-line (now (image .entry)) rank (slot .0)) (now (out .exit)) r ⌝ }
+fn put_line(
+    image: &[u8],
+    setting: Setting,
+    rank: usize,
+    slot: SlotNo,
+    out: &mut [u8],
+    at: usize,
+) -> usize
+    ensures { λ r. ⌜ Put (now (out .entry)) at (slot-line setting (now (image .entry)) rank (slot .0)) (now (out .exit)) r ⌝ }
 {
     let mut end = text::put_decimal(out, at, rank as u64);
     end = text::put_byte(out, end, b' ');
     end = text::put_decimal(out, end, slot.0 as u64);
     end = text::put_byte(out, end, b' ');
-    end = text::put_shown(
-        out,
-        end,
-        reading::slot_name(image, GRANULE, SPT0, SPT1, slot),
-    );
-    put_facts(image, slot, out, end)
+    end = text::put_shown(out, end, reading::slot_name(image, setting, slot));
+    put_facts(image, setting, slot, out, end)
 }
 
-fn put_facts(image: &[u8], slot: SlotNo, out: &mut [u8], at: usize) -> usize
-    ensures { λ r. ⌜ Put (now (out .entry)) at (facts-text (now (image .entry)) (slot .0)) (now (out .exit)) r ⌝ }
+fn put_facts(image: &[u8], setting: Setting, slot: SlotNo, out: &mut [u8], at: usize) -> usize
+    ensures { λ r. ⌜ Put (now (out .entry)) at (facts-text setting (now (image .entry)) (slot .0)) (now (out .exit)) r ⌝ }
 {
-    let known = reading::slot_facts(image, GRANULE, SPT0, SPT1, slot);
+    let known = reading::slot_facts(image, setting, slot);
     match known {
         Known::Refused(_) => text::put_byte(out, at, b'\n'),
         Known::Is(facts) => {

@@ -8,7 +8,7 @@ use lib.ListN.{getD, length}
 use Rattle.rules.specs.Lists.{without}
 use Rattle.rules.specs.Bytes.{block, Bytes}
 use Rattle.rules.specs.Answers.{Answer, refused, given, _>>=_}
-use Rattle.rules.specs.Numbers.{Setting}
+use Rattle.rules.specs.declared.Setting.{Setting}
 use Rattle.rules.specs.Table.{entries, cpb0-of, cpb1-of}
 use Rattle.rules.specs.Copies.{view, boot-order, pairs-agree}
 use Rattle.rules.specs.Readers.{slot-row}

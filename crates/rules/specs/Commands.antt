@@ -7,7 +7,7 @@ use lib.ListN.{take, drop, getD, length, replicate}
 use Rattle.rules.specs.Lists.{member, without, all, any}
 use Rattle.rules.specs.Bytes.{bytes-of, block, erased-byte}
 use Rattle.rules.specs.Answers.{Answer, given, unless, _>>=_}
-use Rattle.rules.specs.Numbers.{Setting}
+use Rattle.rules.specs.declared.Setting.{Setting}
 use Rattle.rules.specs.Table.{Entry, entries, has-name, is-fixed-name, starts, table-stands}
 use Rattle.rules.specs.Pointers.{place-offset, place-count, places, order, judged, is-erased, gives, pointers-stand}
 use Rattle.rules.specs.Copies.{view, boot-order, pair-agrees, agree-by}

@@ -7,7 +7,8 @@ use lib.ListN.{length}
 use Rattle.rules.specs.Lists.{same}
 use Rattle.rules.specs.Bytes.{block, block-size}
 use Rattle.rules.specs.Answers.{Answer, refused, given, unless, _>>=_}
-use Rattle.rules.specs.Numbers.{Setting, length-right, granule-right, addresses-right}
+use Rattle.rules.specs.Numbers.{length-right, granule-right, addresses-right}
+use Rattle.rules.specs.declared.Setting.{Setting}
 use Rattle.rules.specs.Table.{table-stands, starts, cpb0-of, cpb1-of}
 use Rattle.rules.specs.Pointers.{pointers-stand, places, order}
 use Rattle.rules.specs.declared.View.{View}

@@ -6,7 +6,7 @@ use lib.Dec.{eqb, ltb}
 use lib.ListN.{take, drop, length, getD, replicate}
 use Rattle.rules.specs.Lists.{without}
 use Rattle.rules.specs.Bytes.{bytes-of, block, block-size, erased-byte}
-use Rattle.rules.specs.Numbers.{Setting}
+use Rattle.rules.specs.declared.Setting.{Setting}
 use Rattle.rules.specs.Table.{entries, starts, table-stands}
 use Rattle.rules.specs.Pointers.{place-offset, place-count, places, order, pointers-stand}
 use Rattle.rules.specs.Copies.{pair-agrees}

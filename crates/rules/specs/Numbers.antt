@@ -3,13 +3,9 @@ use mathlib.Core.Bool.{Bool, not, _&&_, _||_}
 use Prim.Native.Nat.{ℕ, _+_}
 use lib.Dec.{eqb, leb}
 use Rattle.rules.specs.Bytes.{block-size, multiple}
+use Rattle.rules.specs.declared.Setting.{Setting}
 
 -- the erase granule, and the addresses of SPT0 and SPT1
-pub record Setting : Type 0 where
-  pub granule : ℕ
-  pub spt0 : ℕ
-  pub spt1 : ℕ
-
 abbrev pub setting : ℕ → ℕ → ℕ → Setting
 setting granule spt0 spt1 = record { granule = granule; spt0 = spt0; spt1 = spt1 }
 

@@ -7,7 +7,7 @@ use lib.Dec.{eqb, leb, ltb}
 use lib.ListN.{take, drop, length}
 use Rattle.rules.specs.Lists.{same, all, any, pairwise, keep, first}
 use Rattle.rules.specs.Bytes.{field, up-to-zero, multiple, block-size}
-use Rattle.rules.specs.Numbers.{Setting}
+use Rattle.rules.specs.declared.Setting.{Setting}
 
 -- ---- entries
 

@@ -9,6 +9,18 @@ pub struct SlotNo(pub u32);
 // The number of a pointer place in a pointer block, from 0.
 pub struct PlaceNo(pub usize);
 
+// What a caller says of a flash beside its bytes: the erase granule, and where the two copies of the table are.
+pub struct Setting {
+    pub granule: usize,
+    pub spt0: usize,
+    pub spt1: usize,
+}
+
+// A refusal, by its number in document 01's table.
+pub struct Refusal {
+    pub number: u8,
+}
+
 // What one pointer place holds: document 01's "erased", "live" and "dead".
 pub enum Place {
     Erased,

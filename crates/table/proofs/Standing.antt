@@ -6,7 +6,7 @@ use mathlib.Core.List.{List}
 use Prim.Native.Nat.{ℕ, _≤_}
 use borrow.Author.Tests.{not-true, not-false}
 use Rattle.rules.specs.Lists.{all, pairwise}
-use Rattle.rules.specs.Numbers.{Setting}
+use Rattle.rules.specs.declared.Setting.{Setting}
 use Rattle.rules.specs.Table.{Entry, header-right, count-right, entry-count, entries, entries-stand, table-stands}
 use Rattle.rules.specs.Table.{name-right, names-differ, range-aligned, range-inside, ranges-apart}
 use Rattle.rules.specs.Table.{six-named, boot-info-at-0, tables-as-told, blocks-on-granules}

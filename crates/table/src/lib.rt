@@ -1,11 +1,11 @@
 // One copy of the sub-partition table: the eleven rules by which it stands, a function for each.
 use rules::EntryNo;
+use rules::Setting;
 ghost use mathlib.Core.Path.{_≡_};
 ghost use Prim.Native.Nat.{_+_, _≤_, _<_};
 ghost use lib.Dec.{leb};
 ghost use lib.ListN.{length};
 ghost use Rattle.rules.specs.Bytes.{block, block-size};
-ghost use Rattle.rules.specs.Numbers.{setting};
 ghost use Rattle.rules.specs.Table.{rows, header-right, count-right, entries-stand, table-stands};
 ghost use Rattle.walks.specs.Entries.{HasEntries};
 
@@ -46,10 +46,10 @@ pub struct SixEntries {
 }
 
 // The copy at an address of the image stands.
-pub fn table_stands(image: &[u8], at: usize, granule: usize, spt0: usize, spt1: usize) -> bool
-    requires { ⌜ (at + block-size ≤ length (now image)) × (0 < granule) ⌝ }
+pub fn table_stands(image: &[u8], at: usize, setting: Setting) -> bool
+    requires { ⌜ (at + block-size ≤ length (now image)) × (0 < setting .granule) ⌝ }
     ensures { λ r. ⌜ r
-        ≡ table-stands (setting granule spt0 spt1) (length (now (image .entry))) (block (now (image .entry)) at) ⌝ }
+        ≡ table-stands setting (length (now (image .entry))) (block (now (image .entry)) at) ⌝ }
 {
     let table = fields::block_at(image, at);
     if !(header_is_right(table) & count_is_right(table)) {
@@ -57,21 +57,21 @@ pub fn table_stands(image: &[u8], at: usize, granule: usize, spt0: usize, spt1: 
     }
     let n = entries::entry_count(table);
     let len = image.len() as u64;
-    entries_stand(table, n, len, granule as u64, spt0 as u64, spt1 as u64)
+    entries_stand(table, n, len, setting)
 }
 
 // Rules 3 to 11, over the first n entries. Here and below tests are joined by `&` and `|`, which take both sides:
 // no read depends on a test, and a proof needs no case for each.
-fn entries_stand(table: &[u8], n: usize, len: u64, granule: u64, spt0: u64, spt1: u64) -> bool
-    requires { ⌜ HasEntries (now table) n × (0 < granule) ⌝ }
-    ensures { λ r. ⌜ r ≡ entries-stand (setting granule spt0 spt1) len (rows n (now (table .entry))) ⌝ }
+fn entries_stand(table: &[u8], n: usize, len: u64, setting: Setting) -> bool
+    requires { ⌜ HasEntries (now table) n × (0 < setting .granule) ⌝ }
+    ensures { λ r. ⌜ r ≡ entries-stand setting len (rows n (now (table .entry))) ⌝ }
 {
     each::all_keep(Rule::NameRight, table, n)
         & naming::all_differ(table, n)
         & each::all_keep(Rule::RangeAligned, table, n)
         & each::all_keep(Rule::RangeInside(len), table, n)
         & ranges::all_are_apart(table, n)
-        & six::six_keep(table, n, granule, spt0, spt1)
+        & six::six_keep(table, n, setting)
 }
 
 // Rule 1: magic and version.

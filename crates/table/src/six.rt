@@ -1,29 +1,29 @@
 // Rules 8 to 11: the six entries of fixed names. Each is looked up once, and judged by its entry number.
 use super::SixEntries;
 use rules::EntryNo;
+use rules::Setting;
 ghost use mathlib.Core.Path.{_≡_};
 ghost use mathlib.Core.Bool.{_&&_};
 ghost use Prim.Native.Nat.{_<_};
 ghost use lib.Dec.{eqb};
 ghost use lib.ListN.{length};
 ghost use Rattle.rules.specs.Bytes.{block-size};
-ghost use Rattle.rules.specs.Numbers.{setting};
 ghost use Rattle.rules.specs.Table.{rows, on-granules};
 ghost use Rattle.walks.specs.Entries.{entry-at, most-entries, HasEntries};
 ghost use Rattle.table.specs.Inner.Six.{Found, Below, below, six-right};
 
 // The first n entries keep rules 8 to 11: where one of the six is not among them there is nothing to judge.
-pub fn six_keep(table: &[u8], n: usize, granule: u64, spt0: u64, spt1: u64) -> bool
-    requires { ⌜ HasEntries (now table) n × (0 < granule) ⌝ }
-    ensures { λ r. ⌜ r ≡ six-right (setting granule spt0 spt1) (rows n (now (table .entry))) ⌝ }
+pub fn six_keep(table: &[u8], n: usize, setting: Setting) -> bool
+    requires { ⌜ HasEntries (now table) n × (0 < setting .granule) ⌝ }
+    ensures { λ r. ⌜ r ≡ six-right setting (rows n (now (table .entry))) ⌝ }
 {
     let six = find_six(table, n);
     if !six_are_named(six, n) {
         return false;
     }
     boot_info_is_at_0(table, six)
-        & tables_are_as_told(table, six, spt0, spt1)
-        & blocks_are_on_granules(table, six, granule)
+        & tables_are_as_told(table, six, setting.spt0 as u64, setting.spt1 as u64)
+        & blocks_are_on_granules(table, six, setting.granule as u64)
 }
 
 fn find_six(table: &[u8], n: usize) -> SixEntries

@@ -15,7 +15,8 @@ use borrow.Author.Tests.{eqb-true, eq-eqb, leb-true, le-leb}
 use lib.ListN.{length}
 use Rattle.rules.specs.Bytes.{multiple, block}
 use Rattle.rules.specs.Answers.{Answer, refused, given}
-use Rattle.rules.specs.Numbers.{Setting, granule-right, address-right, addresses-right}
+use Rattle.rules.specs.Numbers.{granule-right, address-right, addresses-right}
+use Rattle.rules.specs.declared.Setting.{Setting}
 use Rattle.rules.specs.Table.{Entry, entries, on-granules, named, blocks-on-granules, tables-as-told, table-stands}
 use Rattle.rules.specs.Copies.{copy-read, table-read, view-through, view, pair-agrees, tables-agree, pointers-agree, agree-by, agreed, pairs-agree}
 use Rattle.rules.specs.Readers.{order-list, table-part}

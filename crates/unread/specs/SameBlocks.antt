@@ -5,7 +5,7 @@ use Prim.Native.Nat.{ℕ}
 use lib.ListN.{length}
 use Rattle.rules.specs.Bytes.{block}
 use Rattle.rules.specs.Answers.{given}
-use Rattle.rules.specs.Numbers.{Setting}
+use Rattle.rules.specs.declared.Setting.{Setting}
 use Rattle.rules.specs.Table.{cpb0-of, cpb1-of}
 use Rattle.rules.specs.Copies.{table-read}
 

@@ -1,7 +1,8 @@
 -- `finish` does all listed steps of the command: its run is never refused. Assumes nothing.
 use mathlib.Core.Path.{_∙_}
 use Rattle.commands.proofs.StartLists.{result-begins}
-use Rattle.book.specs.Kept.{setting-of, command-of}
+use Rattle.commands.specs.Begins.{command-of}
+use Rattle.book.specs.Kept.{new-name}
 use Rattle.bench.proofs.Finishing.{names-of-bytes, finishes}
 use borrow.Author.Needs.{needs}
 use Rattle.bench.proofs.finish.Statement.{statement}
@@ -19,8 +20,8 @@ same-length c = search needs
 returns : tie.Need-returns
 returns c =
     let a = c .before .before .before .before .before .before .before .args in
-    let s = setting-of (a .s) in
-    let named = command-of (a .command) in
+    let s = a .setting in
+    let named = command-of (a .command) new-name in
     let begun = c .before .before .before .begin in
     let (done, left) = finishes s (a .image .now) named (begun .result)
     (λ i. c .before .before .before .before .before .before .slice-known .given i .fits) (names-of-bytes (a .command))

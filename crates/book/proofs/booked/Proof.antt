@@ -1,5 +1,5 @@
 -- `booked` makes each command's change. Assumes nothing.
-use Rattle.book.specs.Kept.{command-of}
+use Rattle.commands.specs.Begins.{command-of}
 use Rattle.book.proofs.Changes.{enabled, disabled, with-name, repaired}
 use borrow.Author.Needs.{needs}
 use Rattle.book.proofs.booked.Statement.{statement}

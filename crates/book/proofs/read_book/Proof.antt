@@ -35,20 +35,20 @@ table-read-requires c κs = search needs
 block-of-requires : tie.Need-block-of-requires
 block-of-requires c κs =
     ap length (c .table-read .ensures)
-    ∙ whole-table _ _ (c .before .before .before .before .before .before .before .no-slots .result) (room-for (c .before .before .before .before .before .before .before .no-slots .ensures)) _ _ (c .before .before .before .before .before .order-list .ensures .0) (c .before .before .listed2 .given .1)
+    ∙ whole-table _ _ (c .before .before .before .before .before .before .before .no-slots .result) (room-for (c .before .before .before .before .before .before .before .no-slots .ensures)) _ (c .before .before .before .before .before .order-list .ensures .0) _ (c .before .before .listed2 .given .1)
 
 book-of-requires-2 : tie.Need-book-of-requires-2
 book-of-requires-2 c κs = search needs
 
 returns : tie.Need-returns
 unfolding read-as answer-of
-returns c = not-read _ _ (c .before .before .before .before .before .before .before .before .no-slots .result) (room-for (c .before .before .before .before .before .before .before .before .no-slots .ensures)) _ _ (c .before .before .before .before .before .before .order-list .ensures .0) (c .before .before .before .listed .given .1)
+returns c = not-read _ _ (c .before .before .before .before .before .before .before .before .no-slots .result) (room-for (c .before .before .before .before .before .before .before .before .no-slots .ensures)) _ (c .before .before .before .before .before .before .order-list .ensures .0) _ (c .before .before .before .listed .given .1)
 
 returns-2 : tie.Need-returns-2
 unfolding read-as answer-of reading-of slots-of
 returns-2 c =
     rw (c .book-of2 .ensures)
-    (was-read _ _ (c .before .before .before .before .before .before .before .before .before .no-slots .result) (room-for (c .before .before .before .before .before .before .before .before .before .no-slots .ensures)) _ _ (c .before .before .before .before .before .before .before .order-list .ensures .0) (c .before .before .before .before .listed2 .given .1) _ _
+    (was-read _ _ (c .before .before .before .before .before .before .before .before .before .no-slots .result) (room-for (c .before .before .before .before .before .before .before .before .before .no-slots .ensures)) _ (c .before .before .before .before .before .before .before .order-list .ensures .0) _ (c .before .before .before .before .listed2 .given .1) _ _
     (c .before .block-of .ensures ∙ c .before .before .table-read .ensures) (c .before .before .before .before .before .before .before .order-list .ensures .1))
 
 pub read-book-spec : {M : Type 1} → statement M

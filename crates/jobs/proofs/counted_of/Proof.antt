@@ -2,6 +2,7 @@
 use mathlib.Core.Path.{_≡_}
 use native.Mathlib.Omega.{arith}
 use borrow.Author.Needs.{needs}
+use Rattle.rules.specs.Answers.{numbered}
 use Rattle.jobs.specs.Jobs.{counted}
 use Rattle.jobs.specs.Inner.Parts.{countable}
 use Rattle.jobs.proofs.ListedSteps.{listed-bound}
@@ -18,7 +19,7 @@ unfolding countable
 returns c =
     let at-left = c .before in
     let a = at-left .before .args in
-    (rw (← at-left .remaining-of .ensures) (counts-none (at-left .remaining-of .result) (a .n) (c .if1 .taken)), λ n e. absurd (refused-steps 11 n e))
+    (rw (← at-left .remaining-of .ensures) (counts-none (at-left .remaining-of .result) (a .n) (c .if1 .taken)), λ n e. absurd (refused-steps (numbered 11) n e))
 
 least-requires : tie.Need-least-requires
 least-requires c κs = search needs

@@ -4,6 +4,7 @@ use native.Mathlib.Omega.{arith}
 use lib.Dec.{eqb}
 use lib.ListN.{length}
 use borrow.Author.Needs.{needs}
+use Rattle.rules.specs.Answers.{numbered}
 use Rattle.rules.proofs.Lists.Tests.{and-true}
 use Rattle.jobs.specs.Jobs.{lent, steps-of}
 use Rattle.jobs.specs.Inner.Parts.{chosen}
@@ -29,7 +30,7 @@ returns c =
     let at-step-count = c .before in
     let s = at-step-count .before .before .before .before .before .before in
     let a = s .args in
-    stays (job s) (a .budget) 11 (a .image .now)
+    stays (job s) (a .budget) (numbered 11) (a .image .now)
     (finished-11 (job s) (sizes s) (a .image .now) (omega (arith, at-step-count .step-count .ensures .0)))
 
 steps-inside-requires : tie.Need-steps-inside-requires
@@ -41,7 +42,7 @@ returns-2 c =
     let at-step-count = at-steps-inside .before .before .before in
     let s = at-step-count .before .before .before .before .before .before in
     let a = s .args in
-    stays (job s) (a .budget) 12 (a .image .now)
+    stays (job s) (a .budget) (numbered 12) (a .image .now)
     (outside-12 (job s) (sizes s) (a .image .now) (omega (arith, at-step-count .step-count .ensures .0))
     (rw (← at-steps-inside .steps-inside .ensures) (one-fails (eqb (length (a .image .now)) (a .plan .len))
     (at-steps-inside .steps-inside .result) (c .if2 .taken))))

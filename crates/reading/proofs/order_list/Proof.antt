@@ -1,15 +1,12 @@
 -- `reading::order_list` lists the order by the two blocks that the view names, or refuses as the view does.
 -- Assumes nothing.
 use mathlib.Core.Path.{refl}
-use lib.ListN.{length}
 use borrow.Author.Needs.{needs}
 use Rattle.rules.specs.Answers.{_>>=_}
-use Rattle.rules.specs.Numbers.{setting}
-use Rattle.rules.specs.Table.{entry-count}
-use Rattle.rules.specs.Readers.{row-after}
+use Rattle.rules.specs.Copies.{boot-order}
+use Rattle.rules.specs.Readers.{order-list, row-after}
 use Rattle.reading.specs.Answers.{listed, count-of}
-use Rattle.reading.proofs.ByView.{no-order, sees, follows, has-entries, order-by-blocks}
-use Rattle.reading.proofs.Seen.{pointers-read-stand, pointers-inside}
+use Rattle.reading.proofs.Opening.{was-viewed, was-refused, opened, has-entries, has-pointers}
 use Rattle.reading.proofs.order_list.Statement.{statement}
 use Rattle.reading.proofs.order_list.Tie as tie
 
@@ -25,61 +22,41 @@ enum-known-seen-2 c = search needs
 block-at-requires : tie.Need-block-at-requires
 block-at-requires c κs =
     let called = c .before .before .before in
-    let a = called .before .before .before .args in
-    follows (setting (a .granule) (a .spt0) (a .spt1)) (a .image .now) (called .view .ensures) (c .before .seen2 .given .1)
-    .table-inside
+    opened _ _ (called .view .ensures) (c .before .seen2 .given .1) .table-inside
 
 block-at-requires-2 : tie.Need-block-at-requires-2
 block-at-requires-2 c κs =
     let seen = c .before .before in
-    let called = seen .before .before in
-    let a = called .before .before .before .args in
-    let s = setting (a .granule) (a .spt0) (a .spt1) in
-    pointers-inside s (a .image .now) (seen .seen2 .given .0 .0)
-    (sees s (a .image .now) (called .view .ensures) (seen .seen2 .given .1))
+    opened _ _ (seen .before .before .view .ensures) (seen .seen2 .given .1) .pointers-inside
 
 list-order-requires : tie.Need-list-order-requires
 list-order-requires c κs =
-    let pointers = c .before in
-    let table = pointers .before in
+    let table = c .before .before in
     let seen = table .before .before in
-    let called = seen .before .before in
-    let a = called .before .before .before .args in
-    let s = setting (a .granule) (a .spt0) (a .spt1) in (
-      has-entries s (a .image .now) (called .view .ensures) (seen .seen2 .given .1) (table .block-at .result .now)
-          (entry-count (table .block-at .result .now)) (table .block-at .ensures .0) refl (table .block-at .ensures .1),
-      record {
-        whole = pointers .block-at2 .ensures .1;
-        stands = rw (pointers .block-at2 .ensures .0)
-            (pointers-read-stand s (a .image .now) (seen .seen2 .given .0 .0)
-            (sees s (a .image .now) (called .view .ensures) (seen .seen2 .given .1)));
-      },
-    )
+    let at = opened _ _ (seen .before .before .view .ensures) (seen .seen2 .given .1) in
+    (has-entries at _ _ (table .block-at .ensures) refl, has-pointers at _ (c .before .block-at2 .ensures))
 
 returns : tie.Need-returns
-unfolding listed count-of row-after _>>=_
+unfolding listed count-of order-list row-after _>>=_
 returns c =
     let called = c .before .before .before in
-    let a = called .before .before .before .args in
-    let e = no-order (setting (a .granule) (a .spt0) (a .spt1)) (a .image .now) (called .view .ensures)
-    (c .before .seen .given .1) (length (a .row .now)) in
+    let e = was-refused _ _ (called .view .ensures) (c .before .seen .given .1) in
     (rw e, rw e)
 
 same-length : tie.Need-same-length
 same-length c = search needs
 
 returns-2 : tie.Need-returns-2
+unfolding order-list boot-order _>>=_
 returns-2 c =
     let listed = c .before .before in
     let pointers = listed .before .before in
     let table = pointers .before in
     let seen = table .before .before in
-    let called = seen .before .before in
-    let a = called .before .before .before .args in
-    let e = order-by-blocks (setting (a .granule) (a .spt0) (a .spt1)) (a .image .now) (called .view .ensures)
-    (seen .seen2 .given .1) (table .block-at .result .now) (pointers .block-at2 .result .now) (length (a .row .now))
-    (table .block-at .ensures .0) (pointers .block-at2 .ensures .0) in
-    (rw e (listed .list-order .ensures .0), rw e (listed .list-order .ensures .1))
+    let e = was-viewed _ _ (seen .before .before .view .ensures) (seen .seen2 .given .1) in
+    let p = pointers .block-at2 .ensures .0 in
+    let t = table .block-at .ensures .0 in
+    (rw (e, ← t, ← p) (listed .list-order .ensures .0), rw (e, ← t, ← p) (listed .list-order .ensures .1))
 
 pub order-list-spec : {M : Type 1} → statement M
 order-list-spec =

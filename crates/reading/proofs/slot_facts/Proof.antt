@@ -1,9 +1,11 @@
 -- `reading::slot_facts` gives the facts by the table read, or refuses as the view does. Assumes nothing.
-use mathlib.Core.Path.{sym, _∙_}
+use mathlib.Core.Path.{_∙_}
 use borrow.Author.Needs.{needs}
-use Rattle.rules.specs.Numbers.{setting}
+use Rattle.rules.specs.Answers.{_>>=_}
+use Rattle.rules.specs.Table.{entries}
+use Rattle.rules.specs.Readers.{slot-facts}
 use Rattle.reading.specs.Answers.{known}
-use Rattle.reading.proofs.ByView.{no-facts, follows, has-entries, facts-by-table}
+use Rattle.reading.proofs.Opening.{was-viewed, was-refused, opened, has-entries}
 use Rattle.reading.proofs.slot_facts.Statement.{statement}
 use Rattle.reading.proofs.slot_facts.Tie as tie
 
@@ -19,9 +21,7 @@ enum-known-seen-2 c = search needs
 block-at-requires : tie.Need-block-at-requires
 block-at-requires c κs =
     let called = c .before .before .before in
-    let a = called .before .before .args in
-    follows (setting (a .granule) (a .spt0) (a .spt1)) (a .image .now) (called .view .ensures) (c .before .seen2 .given .1)
-    .table-inside
+    opened _ _ (called .view .ensures) (c .before .seen2 .given .1) .table-inside
 
 entry-count-requires : tie.Need-entry-count-requires
 entry-count-requires c κs = search needs
@@ -30,33 +30,27 @@ facts-in-requires : tie.Need-facts-in-requires
 facts-in-requires c κs =
     let block = c .before in
     let seen = block .before .before in
-    let called = seen .before .before in
-    let a = called .before .before .args in
-    has-entries (setting (a .granule) (a .spt0) (a .spt1)) (a .image .now) (called .view .ensures) (seen .seen2 .given .1)
-    (block .block-at .result .now) (c .entry-count .result) (block .block-at .ensures .0) (c .entry-count .ensures)
-    (block .block-at .ensures .1)
+    has-entries (opened _ _ (seen .before .before .view .ensures) (seen .seen2 .given .1)) _ _ (block .block-at .ensures)
+    (c .entry-count .ensures)
 
 returns : tie.Need-returns
-unfolding known
+unfolding known slot-facts _>>=_
 returns c =
     let called = c .before .before .before in
-    let a = called .before .before .args in
-    sym
-    (no-facts (setting (a .granule) (a .spt0) (a .spt1)) (a .image .now) (called .view .ensures)
-    (c .before .seen .given .1) (a .slot .0))
+    rw (was-refused _ _ (called .view .ensures) (c .before .seen .given .1))
 
 returns-2 : tie.Need-returns-2
+unfolding slot-facts entries _>>=_
 returns-2 c =
     let count = c .before in
     let block = count .before in
     let seen = block .before .before in
-    let called = seen .before .before in
-    let a = called .before .before .args in
     c .facts-in .ensures
-    ∙ sym
-    (facts-by-table (setting (a .granule) (a .spt0) (a .spt1)) (a .image .now) (called .view .ensures)
-    (seen .seen2 .given .1) (block .block-at .result .now) (count .entry-count .result) (block .block-at .ensures .0)
-    (count .entry-count .ensures) (a .slot .0))
+    ∙ rw (
+      was-viewed _ _ (seen .before .before .view .ensures) (seen .seen2 .given .1),
+      count .entry-count .ensures,
+      block .block-at .ensures .0,
+    )
 
 pub slot-facts-spec : {M : Type 1} → statement M
 slot-facts-spec =

@@ -1,8 +1,13 @@
 -- `reading::slot_name` is the name by the table read, or an empty part. Assumes nothing.
-use mathlib.Core.Path.{sym, _∙_}
+use mathlib.Core.Path.{_∙_}
+use native.Mathlib.Omega.{arith}
 use borrow.Author.Needs.{needs}
-use Rattle.rules.specs.Numbers.{setting}
-use Rattle.reading.proofs.ByView.{no-name, follows, has-entries, name-by-table}
+use borrow.Author.Tests.{le-ltb}
+use Rattle.rules.specs.Lists.{keep}
+use Rattle.rules.specs.Bytes.{little-endian, field}
+use Rattle.rules.specs.Table.{entries-from, entry-count, entries, slots}
+use Rattle.rules.specs.Readers.{slot-there, name-in, slot-name}
+use Rattle.reading.proofs.Opening.{no-table, table-of-view, opened, has-entries}
 use Rattle.reading.proofs.slot_name.Statement.{statement}
 use Rattle.reading.proofs.slot_name.Tie as tie
 
@@ -21,9 +26,7 @@ enum-known-seen c = search needs
 block-at-requires : tie.Need-block-at-requires
 block-at-requires c κs =
     let called = c .before .before .before in
-    let a = called .before .before .args in
-    follows (setting (a .granule) (a .spt0) (a .spt1)) (a .image .now) (called .view .ensures) (c .before .seen .given .1)
-    .table-inside
+    opened _ _ (called .view .ensures) (c .before .seen .given .1) .table-inside
 
 entry-count-requires : tie.Need-entry-count-requires
 entry-count-requires c κs = search needs
@@ -32,32 +35,28 @@ name-in-requires : tie.Need-name-in-requires
 name-in-requires c κs =
     let block = c .before in
     let seen = block .before .before in
-    let called = seen .before .before in
-    let a = called .before .before .args in
-    has-entries (setting (a .granule) (a .spt0) (a .spt1)) (a .image .now) (called .view .ensures) (seen .seen .given .1)
-    (block .block-at .result .now) (c .entry-count .result) (block .block-at .ensures .0) (c .entry-count .ensures)
-    (block .block-at .ensures .1)
+    has-entries (opened _ _ (seen .before .before .view .ensures) (seen .seen .given .1)) _ _ (block .block-at .ensures)
+    (c .entry-count .ensures)
 
+-- no table, no entries, no slot
 returns : tie.Need-returns
+unfolding slot-name entries entry-count field little-endian entries-from name-in slot-there slots keep
 returns c =
     let called = c .before .before .before in
-    let a = called .before .before .args in
-    sym
-    (no-name (setting (a .granule) (a .spt0) (a .spt1)) (a .image .now) (called .view .ensures)
-    (c .before .enum-told .given .1) (a .slot .0))
+    rw (no-table _ _ (called .view .ensures) (c .before .enum-told .given .1), le-ltb (called .before .before .args .slot .0) 0 (omega arith))
 
 returns-2 : tie.Need-returns-2
+unfolding slot-name entries
 returns-2 c =
     let count = c .before in
     let block = count .before in
     let seen = block .before .before in
-    let called = seen .before .before in
-    let a = called .before .before .args in
     c .name-in .ensures
-    ∙ sym
-    (name-by-table (setting (a .granule) (a .spt0) (a .spt1)) (a .image .now) (called .view .ensures)
-    (seen .seen .given .1) (block .block-at .result .now) (count .entry-count .result) (block .block-at .ensures .0)
-    (count .entry-count .ensures) (a .slot .0))
+    ∙ rw (
+      table-of-view _ _ (seen .before .before .view .ensures) (seen .seen .given .1),
+      count .entry-count .ensures,
+      block .block-at .ensures .0,
+    )
 
 pub slot-name-spec : {M : Type 1} → statement M
 slot-name-spec =

@@ -1,9 +1,7 @@
 -- `reading::table_read` is the part of the image that the view names, or an empty part. Assumes nothing.
 use mathlib.Core.Path.{sym, _∙_}
-use native.Mathlib.Omega.{arith}
 use borrow.Author.Needs.{needs}
-use Rattle.rules.specs.Numbers.{setting}
-use Rattle.reading.proofs.ByView.{no-table, fits, table-by-view}
+use Rattle.reading.proofs.Opening.{no-table, table-of-view, opened}
 use Rattle.reading.proofs.table_read.Statement.{statement}
 use Rattle.reading.proofs.table_read.Tie as tie
 
@@ -22,25 +20,18 @@ enum-known-seen c = search needs
 block-at-requires : tie.Need-block-at-requires
 block-at-requires c κs =
     let called = c .before .before .before in
-    let a = called .before .before .args in
-    let s = setting (a .granule) (a .spt0) (a .spt1) in
-    omega (arith, fits s (a .image .now) (called .view .ensures) (c .before .seen .given .1))
+    opened _ _ (called .view .ensures) (c .before .seen .given .1) .table-inside
 
 returns : tie.Need-returns
 returns c =
     let called = c .before .before .before in
-    let a = called .before .before .args in
-    sym
-    (no-table (setting (a .granule) (a .spt0) (a .spt1)) (a .image .now) (called .view .ensures)
-    (c .before .enum-told .given .1))
+    sym (no-table _ _ (called .view .ensures) (c .before .enum-told .given .1))
 
 returns-2 : tie.Need-returns-2
 returns-2 c =
     let seen = c .before .before in
-    let called = seen .before .before in
-    let a = called .before .before .args in
     c .block-at .ensures .0
-    ∙ sym (table-by-view (setting (a .granule) (a .spt0) (a .spt1)) (a .image .now) (called .view .ensures) (seen .seen .given .1))
+    ∙ sym (table-of-view _ _ (seen .before .before .view .ensures) (seen .seen .given .1))
 
 pub table-read-spec : {M : Type 1} → statement M
 table-read-spec =

@@ -6,7 +6,7 @@ use native.Mathlib.Omega.{arith}
 use lib.ListN.{length}
 use borrow.Author.Needs.{needs}
 use Rattle.rules.specs.Bytes.{block-size}
-use Rattle.rules.specs.Numbers.{setting, length-right, granule-right, addresses-right}
+use Rattle.rules.specs.Numbers.{length-right, granule-right, addresses-right}
 use Rattle.rules.proofs.Claim.Invariant.{granule-holds-block}
 use Rattle.walks.proofs.Joined.{failed, passed}
 use Rattle.reading.specs.Answers.{viewed}
@@ -19,15 +19,15 @@ use Rattle.reading.proofs.view.Tie as tie
 long : (c : tie.Else1) → length-right (length (c .before .before .before .args .image .now)) ≡ true
 long c = passed (c .before .length-right .ensures) (c .if1 .left)
 
-grained : (c : tie.Else2) → granule-right (c .before .before .before .before .before .args .granule) ≡ true
+grained : (c : tie.Else2) → granule-right (c .before .before .before .before .before .args .setting .granule) ≡ true
 grained c = passed (c .before .granule-right .ensures) (c .if2 .left)
 
-holds-block : (c : tie.Else2) → block-size ≤ c .before .before .before .before .before .args .granule
-holds-block c = granule-holds-block (c .before .before .before .before .before .args .granule) (grained c)
+holds-block : (c : tie.Else2) → block-size ≤ c .before .before .before .before .before .args .setting .granule
+holds-block c = granule-holds-block (c .before .before .before .before .before .args .setting .granule) (grained c)
 
 placed : (c : tie.Else3)
     → let a = c .before .before .before .before .before .before .before .args in
-    addresses-right (setting (a .granule) (a .spt0) (a .spt1)) (length (a .image .now)) ≡ true
+    addresses-right (a .setting) (length (a .image .now)) ≡ true
 placed c = passed (c .before .addresses-right .ensures) (c .if3 .left)
 
 length-right-requires : tie.Need-length-right-requires
@@ -38,7 +38,7 @@ unfolding viewed
 returns c =
     let a = c .before .before .before .args in
     sym
-    (refused-1 (setting (a .granule) (a .spt0) (a .spt1)) (a .image .now)
+    (refused-1 (a .setting) (a .image .now)
     (failed (c .before .length-right .ensures) (c .if1 .taken)))
 
 granule-right-requires : tie.Need-granule-right-requires
@@ -49,7 +49,7 @@ unfolding viewed
 returns-2 c =
     let a = c .before .before .before .before .before .args in
     sym
-    (refused-2 (setting (a .granule) (a .spt0) (a .spt1)) (a .image .now) (long (c .before .before))
+    (refused-2 (a .setting) (a .image .now) (long (c .before .before))
     (failed (c .before .granule-right .ensures) (c .if2 .taken)))
 
 addresses-right-requires : tie.Need-addresses-right-requires
@@ -61,22 +61,22 @@ returns-3 c =
     let grain = c .before .before in
     let a = grain .before .before .before .before .before .args in
     sym
-    (refused-3 (setting (a .granule) (a .spt0) (a .spt1)) (a .image .now) (long (grain .before .before)) (grained grain)
+    (refused-3 (a .setting) (a .image .now) (long (grain .before .before)) (grained grain)
     (failed (c .before .addresses-right .ensures) (c .if3 .taken)))
 
 table-stands-requires : tie.Need-table-stands-requires
 table-stands-requires c κs =
     let holds = holds-block (c .before .before) in
     let a = c .before .before .before .before .before .before .before .args in
-    let (inside0, _) = told-inside (setting (a .granule) (a .spt0) (a .spt1)) (length (a .image .now)) (placed c) in
+    let (inside0, _) = told-inside (a .setting) (length (a .image .now)) (placed c) in
     (omega arith, omega arith)
 
 view-through-requires : tie.Need-view-through-requires
 view-through-requires c κs =
     let in-place = c .before .before in
     let a = in-place .before .before .before .before .before .before .before .args in
-    let s = setting (a .granule) (a .spt0) (a .spt1) in
-    followed s (a .image .now) (a .spt0) (holds-block (in-place .before .before))
+    let s = a .setting in
+    followed s (a .image .now) (a .setting .spt0) (holds-block (in-place .before .before))
     (told-inside s (length (a .image .now)) (placed in-place) .0)
     (sym (c .before .table-stands .ensures) ∙ c .if4 .taken)
 
@@ -85,9 +85,9 @@ returns-4 c =
     let first = c .before .before in
     let in-place = first .before in
     let a = in-place .before .before .before .before .before .before .before .args in
-    c .view-through .ensures (a .granule)
+    c .view-through .ensures
     ∙ sym
-    (through-spt0 (setting (a .granule) (a .spt0) (a .spt1)) (a .image .now) (long (in-place .before .before .before .before))
+    (through-spt0 (a .setting) (a .image .now) (long (in-place .before .before .before .before))
     (grained (in-place .before .before)) (placed in-place) (sym (first .table-stands .ensures) ∙ c .before .if4 .taken))
 
 table-stands-requires-2 : tie.Need-table-stands-requires-2
@@ -95,15 +95,15 @@ table-stands-requires-2 c κs =
     let in-place = c .before .before in
     let holds = holds-block (in-place .before .before) in
     let a = in-place .before .before .before .before .before .before .before .args in
-    let (_, inside1) = told-inside (setting (a .granule) (a .spt0) (a .spt1)) (length (a .image .now)) (placed in-place) in
+    let (_, inside1) = told-inside (a .setting) (length (a .image .now)) (placed in-place) in
     (omega arith, omega arith)
 
 view-through-requires-2 : tie.Need-view-through-requires-2
 view-through-requires-2 c κs =
     let in-place = c .before .before .before .before in
     let a = in-place .before .before .before .before .before .before .before .args in
-    let s = setting (a .granule) (a .spt0) (a .spt1) in
-    followed s (a .image .now) (a .spt1) (holds-block (in-place .before .before))
+    let s = a .setting in
+    followed s (a .image .now) (a .setting .spt1) (holds-block (in-place .before .before))
     (told-inside s (length (a .image .now)) (placed in-place) .1)
     (sym (c .before .table-stands2 .ensures) ∙ c .if5 .taken)
 
@@ -113,9 +113,9 @@ returns-5 c =
     let not-first = second .before in
     let in-place = not-first .before .before in
     let a = in-place .before .before .before .before .before .before .before .args in
-    c .view-through2 .ensures (a .granule)
+    c .view-through2 .ensures
     ∙ sym
-    (through-spt1 (setting (a .granule) (a .spt0) (a .spt1)) (a .image .now) (long (in-place .before .before .before .before))
+    (through-spt1 (a .setting) (a .image .now) (long (in-place .before .before .before .before))
     (grained (in-place .before .before)) (placed in-place) (sym (not-first .before .table-stands .ensures) ∙ not-first .if4 .left)
     (sym (second .table-stands2 .ensures) ∙ c .before .if5 .taken))
 
@@ -126,7 +126,7 @@ returns-6 c =
     let in-place = not-first .before .before in
     let a = in-place .before .before .before .before .before .before .before .args in
     sym
-    (refused-4 (setting (a .granule) (a .spt0) (a .spt1)) (a .image .now) (long (in-place .before .before .before .before))
+    (refused-4 (a .setting) (a .image .now) (long (in-place .before .before .before .before))
     (grained (in-place .before .before)) (placed in-place) (sym (not-first .before .table-stands .ensures) ∙ not-first .if4 .left)
     (sym (c .before .table-stands2 .ensures) ∙ c .if5 .left))
 

@@ -1,7 +1,7 @@
 -- `put_facts` puts start and length of a slot, by what is known of it. Assumes nothing.
 use Rattle.reading.specs.Answers.{known}
 use Rattle.text.proofs.Puts.{then}
-use Rattle.report.specs.Listing.{facts-text, told, listing-setting}
+use Rattle.report.specs.Listing.{facts-text, told}
 use borrow.Author.Needs.{needs}
 use Rattle.report.proofs.put_facts.Statement.{statement}
 use Rattle.report.proofs.put_facts.Tie as tie
@@ -37,14 +37,14 @@ same-length : tie.Need-same-length
 same-length c = search needs
 
 returns : tie.Need-returns
-unfolding facts-text told listing-setting known
+unfolding facts-text told known
 returns c = rw (← c .before .before .before .before .before .before .slot-facts .ensures, c .before .before .before .before .enum-told .given .1) (c .before .before .put-byte .ensures)
 
 same-length-2 : tie.Need-same-length-2
 same-length-2 c = search needs
 
 returns-2 : tie.Need-returns-2
-unfolding facts-text told listing-setting known
+unfolding facts-text told known
 returns-2 c =
     let newline = c .before .before in
     let size = newline .before .before .before .before in

@@ -1,6 +1,6 @@
 -- `put_line` puts the line of a slot, part by part. Assumes nothing.
 use Rattle.text.proofs.Puts.{then}
-use Rattle.report.specs.Listing.{slot-line, listing-setting}
+use Rattle.report.specs.Listing.{slot-line}
 use borrow.Author.Needs.{needs}
 use Rattle.report.proofs.put_line.Statement.{statement}
 use Rattle.report.proofs.put_line.Tie as tie
@@ -33,7 +33,7 @@ same-length : tie.Need-same-length
 same-length c = search needs
 
 returns : tie.Need-returns
-unfolding slot-line listing-setting
+unfolding slot-line
 returns c =
     let facts = c .before .before in
     let name = facts .before .before .before .before in

@@ -12,10 +12,10 @@ use Rattle.report.proofs.put_lines.Statement.{statement}
 use Rattle.report.proofs.put_lines.Tie as tie
 
 abbrev Inv-loop : tie.InvT-loop
-Inv-loop image row count out₀ at end₀ i₀ out end i = Put out₀ end₀ (slot-lines image 1 (take i row)) out end × (i ≤ count)
+Inv-loop image setting row count out₀ at end₀ i₀ out end i = Put out₀ end₀ (slot-lines setting image 1 (take i row)) out end × (i ≤ count)
 
 abbrev μ-loop : tie.MeasureT-loop
-μ-loop image row count out₀ at end₀ i₀ out end i = count - i
+μ-loop image setting row count out₀ at end₀ i₀ out end i = count - i
 
 loop-holds : tie.Need-loop-holds Inv-loop μ-loop
 unfolding slot-lines
@@ -24,11 +24,11 @@ loop-holds c = (put-nothing _ _, omega arith)
 add-put-line : tie.Need-add-put-line Inv-loop μ-loop
 add-put-line c = search needs
 
-mul-t10 : tie.Need-mul-t10 Inv-loop μ-loop
-mul-t10 c = search needs
+mul-t11 : tie.Need-mul-t11 Inv-loop μ-loop
+mul-t11 c = search needs
 
-shared-slice-read-t12 : tie.Need-shared-slice-read-t12 Inv-loop μ-loop
-shared-slice-read-t12 c = search needs
+shared-slice-read-t13 : tie.Need-shared-slice-read-t13 Inv-loop μ-loop
+shared-slice-read-t13 c = search needs
 
 put-line-requires : tie.Need-put-line-requires Inv-loop μ-loop
 put-line-requires c κs = search needs
@@ -41,7 +41,7 @@ loop-less c = search needs
 
 loop-again : tie.Need-loop-again Inv-loop μ-loop
 loop-again c = (
-  one-more-line (c .before .before .before .before .before .before .before .before .before .before .args .image .now) (c .before .before .before .before .before .before .before .before .before .before .args .row .now) (c .before .before .before .before .before .before .loop .i) (omega arith)
+  one-more-line (c .before .before .before .before .before .before .before .before .before .before .args .setting) (c .before .before .before .before .before .before .before .before .before .before .args .image .now) (c .before .before .before .before .before .before .before .before .before .before .args .row .now) (c .before .before .before .before .before .before .loop .i) (omega arith)
       (c .before .before .before .before .before .before .loop .inv .0) (c .before .before .put-line .ensures),
   omega arith,
 )
@@ -62,8 +62,8 @@ put-lines-spec =
     μ-loop
     loop-holds
     add-put-line
-    mul-t10
-    shared-slice-read-t12
+    mul-t11
+    shared-slice-read-t13
     put-line-requires
     add-i
     loop-less

@@ -7,7 +7,7 @@ use mathlib.Core.Option.{Option, none, some}
 use Prim.Native.Nat.{ℕ}
 use Rattle.rules.specs.Bytes.{Bytes}
 use Rattle.rules.specs.Answers.{Answer, given, _>>=_}
-use Rattle.rules.specs.Numbers.{Setting}
+use Rattle.rules.specs.declared.Setting.{Setting}
 use Rattle.rules.specs.Copies.{pairs-agree}
 use Rattle.rules.specs.Commands.{Command, repair}
 use Rattle.rules.specs.Book.{Reading, the-commands, Item, Outcome, finished, reading, flash-after, outcome, changed, booked, agree-if-finished, follows, name-bytes, all-proper, Demand3}

@@ -7,7 +7,7 @@ use mathlib.Core.List.{List, [], _∷_}
 use Prim.Native.Nat.{ℕ}
 use Rattle.rules.specs.Bytes.{Bytes, block}
 use Rattle.rules.specs.Answers.{given}
-use Rattle.rules.specs.Numbers.{Setting}
+use Rattle.rules.specs.declared.Setting.{Setting}
 use Rattle.rules.specs.Table.{cpb0-of, cpb1-of}
 use Rattle.rules.specs.Copies.{view}
 use Rattle.rules.specs.Book.{Reading, CommandSet, Item, read-by, reading, flash-after, outcome, booked, in-granule, Untouched, Holds, follows, all-proper}

@@ -11,7 +11,8 @@ use borrow.Author.Tests.{eqb-true}
 use lib.ListN.{length}
 use Rattle.rules.specs.Bytes.{Bytes, block, block-size}
 use Rattle.rules.specs.Answers.{given, unless, _>>=_}
-use Rattle.rules.specs.Numbers.{Setting, length-right, granule-right, addresses-right}
+use Rattle.rules.specs.Numbers.{length-right, granule-right, addresses-right}
+use Rattle.rules.specs.declared.Setting.{Setting}
 use Rattle.rules.specs.Table.{table-magic, header-right, table-stands, starts, cpb0-of, cpb1-of}
 use Rattle.rules.specs.Pointers.{pointers-stand}
 use Rattle.rules.specs.Copies.{copy-read, table-read, pointers-read, view-through, view, order-by, boot-order, tables-agree, pointers-agree, agree-by, agreed, pairs-agree}

@@ -8,6 +8,7 @@ use Prim.Native.Nat.{ℕ}
 use Rattle.rules.specs.Answers.{Answer, refused, given}
 use Rattle.rules.specs.Cuts.{dropped}
 use Rattle.rules.specs.Book.{Reading, CommandSet, Item, finished, cut, how-ended, progress, left-by, flash-after, ended-by, outcome, booked, agree-if-finished}
+use Rattle.rules.specs.declared.Refusal.{Refusal}
 use Rattle.rules.specs.declared.Step.{Step}
 use Rattle.rules.proofs.Steps.Cutting.{cut-dropped, dropped-finished}
 use Rattle.rules.proofs.Claim.Invariant.{Beginning, Invariant}
@@ -43,8 +44,8 @@ module _ (C : CommandSet) (all-right : AllRight C) (beginning : Beginning) where
       left : List Step → List Step
       left ss = progress (s .granule) i img ss .left
 
-      when-refused : (n : ℕ) → C .start s img (i .command) ≡ refused n → (choice : Bool) × ItemRight img r i choice
-      when-refused n e = (false, record { holds = rw e h; agrees = rw e tt })
+      when-refused : (why : Refusal) → C .start s img (i .command) ≡ refused why → (choice : Bool) × ItemRight img r i choice
+      when-refused why e = (false, record { holds = rw e h; agrees = rw e tt })
 
       when-finished : (ss : List Step)
           → C .start s img (i .command) ≡ given ss
@@ -78,5 +79,5 @@ module _ (C : CommandSet) (all-right : AllRight C) (beginning : Beginning) where
           → C .start s img (i .command) ≡ a
           → ((ss : List Step) → a ≡ given ss → Leads beginning img r (C .changed (i .command) r) ss)
           → (choice : Bool) × ItemRight img r i choice
-      answered (refused n) e right = when-refused n e
+      answered (refused why) e right = when-refused why e
       answered (given ss) e right = ended ss e (right ss refl) (left ss) refl

@@ -18,7 +18,7 @@ use mathlib.Core.List.{List}
 use Prim.Native.Nat.{ℕ}
 use Rattle.rules.specs.Bytes.{Bytes}
 use Rattle.rules.specs.Answers.{Answer, refused, given, _>>=_}
-use Rattle.rules.specs.Numbers.{Setting}
+use Rattle.rules.specs.declared.Setting.{Setting}
 use Rattle.rules.specs.Copies.{view, agreed, pairs-agree}
 use Rattle.rules.specs.Book.{Reading, the-commands, Item, read-by, reading, all-proper, Demand3}
 use Rattle.rules.specs.declared.View.{View}

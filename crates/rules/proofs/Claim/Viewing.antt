@@ -7,7 +7,8 @@ use Prim.Native.Nat.{ℕ}
 use lib.ListN.{length}
 use Rattle.rules.specs.Bytes.{Bytes, block}
 use Rattle.rules.specs.Answers.{given}
-use Rattle.rules.specs.Numbers.{Setting, length-right, granule-right, addresses-right}
+use Rattle.rules.specs.Numbers.{length-right, granule-right, addresses-right}
+use Rattle.rules.specs.declared.Setting.{Setting}
 use Rattle.rules.specs.Table.{table-stands, cpb0-of, cpb1-of}
 use Rattle.rules.specs.Pointers.{pointers-stand}
 use Rattle.rules.specs.Copies.{copy-read, table-read, pointers-read, view-through, view, boot-order}

@@ -13,7 +13,7 @@ use Prim.Native.Nat.{ℕ}
 use native.Mathlib.Omega.{arith}
 use Rattle.rules.specs.Bytes.{Bytes, block}
 use Rattle.rules.specs.Answers.{Answer, refused, given, _>>=_}
-use Rattle.rules.specs.Numbers.{Setting}
+use Rattle.rules.specs.declared.Setting.{Setting}
 use Rattle.rules.specs.Copies.{view, pairs-agree}
 use Rattle.rules.specs.Steps.{steps}
 use Rattle.rules.specs.Commands.{Command, job, start}

@@ -8,7 +8,8 @@ use native.Mathlib.Omega.{arith}
 use lib.Dec.{eqb}
 use borrow.Author.Tests.{eqb-true, eq-eqb}
 use Rattle.rules.specs.Lists.{same}
-use Rattle.rules.specs.Answers.{Answer, refused, given, unless, _>>=_}
+use Rattle.rules.specs.Answers.{Answer, refused, given, numbered, unless, _>>=_}
+use Rattle.rules.specs.declared.Refusal.{Refusal}
 
 -- ---- tests
 
@@ -58,19 +59,19 @@ same-of xs ys e = subst (λ (l : List ℕ). same xs l ≡ true) e (same-refl xs)
 pub given-inj : {A : Type 0} (x y : A) → given x ≡ given y → x ≡ y
 given-inj x y h = cc
 
-pub refused-given : {A : Type 0} (n : ℕ) (x : A) → refused n ≡ given x → ⊥
-refused-given n x h = let z : _≡_ {A = ℕ} 0 1 = cc in omega arith
+pub refused-given : {A : Type 0} (why : Refusal) (x : A) → refused why ≡ given x → ⊥
+refused-given why x h = let z : _≡_ {A = ℕ} 0 1 = cc in omega arith
 
 pub unless-given : {A : Type 0} (n : ℕ) (t : Bool) (a : Answer A) (x : A)
     → unless n t a ≡ given x
     → (t ≡ true) × (a ≡ given x)
 unfolding unless
 unless-given n true a x h = (refl, h)
-unless-given n false a x h = absurd (refused-given n x h)
+unless-given n false a x h = absurd (refused-given (numbered n) x h)
 
 pub bind-given : {A B : Type 0} (a : Answer A) (f : A → Answer B) (x : B)
     → a >>= f ≡ given x
     → (y : A) × (a ≡ given y) × (f y ≡ given x)
 unfolding _>>=_
-bind-given (refused n) f x h = absurd (refused-given n x h)
+bind-given (refused why) f x h = absurd (refused-given why x h)
 bind-given (given y) f x h = (y, refl, h)

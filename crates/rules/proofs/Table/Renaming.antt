@@ -11,7 +11,7 @@ use borrow.Author.Tests.{leb-true, ltb-true, lt-ltb, not-true}
 use lib.ListN.{length, getD, set, take, drop}
 use Rattle.rules.specs.Lists.{same, all, any, pairwise, keep}
 use Rattle.rules.specs.Bytes.{Bytes, block-size, multiple}
-use Rattle.rules.specs.Numbers.{Setting}
+use Rattle.rules.specs.declared.Setting.{Setting}
 use Rattle.rules.specs.Table.{Entry, entry-count, entries, name, cpb0-name, cpb1-name, six-names, has-name, is-fixed-name, no-entry, named, cpb0-of, cpb1-of, header-right, count-right, name-right, names-differ, range-aligned, range-inside, ranges-apart, six-named, boot-info-at-0, tables-as-told, blocks-on-granules, table-stands, is-slot, slots, slot-starts, starts}
 use Rattle.rules.specs.Readers.{slot-row, slot-entry}
 use Rattle.rules.specs.Commands.{put-name, name-allowed, name-free}

@@ -13,7 +13,8 @@ use borrow.Author.Tests.{eqb-true, eq-eqb, ne-eqb, leb-true, not-true}
 use lib.ListN.{length, getD, length-map, List·getD-map}
 use Rattle.rules.specs.Lists.{same, all, any, pairwise, keep}
 use Rattle.rules.specs.Bytes.{multiple, block-size}
-use Rattle.rules.specs.Numbers.{Setting, longest, length-right}
+use Rattle.rules.specs.Numbers.{longest, length-right}
+use Rattle.rules.specs.declared.Setting.{Setting}
 use Rattle.rules.specs.Table.{Entry, entries, name, boot-info, six-names, has-name, is-fixed-name, no-entry, named, range-aligned, range-inside, ranges-apart, six-named, boot-info-at-0, is-slot, slots, slot-starts, starts}
 use Rattle.rules.specs.Pointers.{erased-value, all-ones, one-more, slot-at}
 use Rattle.rules.proofs.Lists.Tests.{and-true, or-false}

@@ -11,7 +11,7 @@ use borrow.Author.Tests.{eqb-true, eqb-false, leb-true, not-true}
 use lib.ListN.{length, getD, drop}
 use Rattle.rules.specs.Lists.{same, all, any, pairwise}
 use Rattle.rules.specs.Bytes.{multiple, block-size}
-use Rattle.rules.specs.Numbers.{Setting}
+use Rattle.rules.specs.declared.Setting.{Setting}
 use Rattle.rules.specs.Table.{Entry, entry-count, entries-from, entries, name, boot-info, factory-image, spt0-name, spt1-name, cpb0-name, cpb1-name, six-names, has-name, no-entry, named, cpb0-of, cpb1-of, header-right, count-right, name-right, names-differ, range-aligned, range-inside, ranges-apart, six-named, boot-info-at-0, tables-as-told, on-granules, blocks-on-granules, entries-stand, table-stands}
 use Rattle.rules.proofs.Lists.Tests.{by-cases, clash, and-true, or-true, same-true, same-of}
 use Rattle.rules.proofs.Lists.Combinators.{all-at, first-passes, first-of-all, first-with-others}

@@ -1,6 +1,5 @@
 -- `table::entries_stand` meets its contract: six tests are the definition's rules 3 to 11. Assumes nothing.
 use borrow.Author.Needs.{needs}
-use Rattle.rules.specs.Numbers.{setting}
 use Rattle.rules.specs.Table.{rows}
 use Rattle.table.specs.Inner.Rules.{keeps}
 use Rattle.table.proofs.Standing.{rules-3-to-11}
@@ -38,7 +37,7 @@ returns c =
       c .before .all-are-apart .ensures,
       c .six-keep .ensures,
     )
-    (rules-3-to-11 (setting (a .granule) (a .spt0) (a .spt1)) (a .len) (rows (a .n) (a .table .now)))
+    (rules-3-to-11 (a .setting) (a .len) (rows (a .n) (a .table .now)))
 
 pub entries-stand-spec : {M : Type 1} → statement M
 entries-stand-spec =

@@ -4,7 +4,6 @@ use mathlib.Core.Path.{sym}
 use native.Mathlib.Omega.{arith}
 use lib.ListN.{length}
 use borrow.Author.Needs.{needs}
-use Rattle.rules.specs.Numbers.{setting}
 use Rattle.rules.specs.Table.{entries}
 use Rattle.table.proofs.Standing.{not-standing, standing-by-entries, count-at-most}
 use Rattle.table.proofs.table_stands.Statement.{statement}
@@ -23,7 +22,7 @@ returns : tie.Need-returns
 returns c =
     let b = c .before .before .before in
     let a = b .before .before .args in
-    let s = setting (a .granule) (a .spt0) (a .spt1) in
+    let s = a .setting in
     let header = c .before .before .header-is-right .ensures in
     let count = c .before .count-is-right .ensures in
     let wrong = not-standing (b .block-at .result .now) header count s (length (a .image .now)) (c .if1 .taken) in
@@ -45,7 +44,7 @@ unfolding entries
 returns-2 c =
     let b = c .before .before .before .before .before in
     let a = b .before .before .args in
-    let s = setting (a .granule) (a .spt0) (a .spt1) in
+    let s = a .setting in
     let header = c .before .before .before .before .header-is-right .ensures in
     let count = c .before .before .before .count-is-right .ensures in
     let right = standing-by-entries (b .block-at .result .now) header count in

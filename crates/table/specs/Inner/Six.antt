@@ -4,7 +4,7 @@ use mathlib.Core.Bool.{Bool, _&&_}
 use mathlib.Core.List.{List}
 use Prim.Native.Nat.{ℕ, _<_}
 use lib.Dec.{ltb}
-use Rattle.rules.specs.Numbers.{Setting}
+use Rattle.rules.specs.declared.Setting.{Setting}
 use Rattle.rules.specs.Table.{Entry, has-name, boot-info, factory-image, spt0-name, spt1-name, cpb0-name, cpb1-name}
 use Rattle.rules.specs.Table.{six-named, boot-info-at-0, tables-as-told, blocks-on-granules}
 use Rattle.walks.specs.Find.{find}

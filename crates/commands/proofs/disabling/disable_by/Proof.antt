@@ -5,14 +5,15 @@ use Prim.Native.Nat.{ℕ, _<_}
 use native.Mathlib.Omega.{arith}
 use lib.ListN.{length}
 use borrow.Author.Needs.{needs}
-use Rattle.rules.specs.Numbers.{setting}
+use Rattle.rules.specs.Answers.{numbered}
 use Rattle.rules.specs.Table.{entry-count}
 use Rattle.rules.specs.Commands.{disable}
 use Rattle.blocks.specs.Inner.Walked.{Readable, places-giving}
 use Rattle.blocks.specs.Made.{places-noted}
 use Rattle.blocks.specs.declared.Noted.{Noted}
-use Rattle.commands.specs.Inner.Asked.{Located}
-use Rattle.commands.proofs.Locating.{located, has-entries, stands, readable}
+use Rattle.reading.specs.Inner.Located.{Located}
+use Rattle.reading.proofs.Opening.{located, has-entries, has-pointers}
+use Rattle.commands.proofs.Locating.{readable}
 use Rattle.commands.proofs.Asking.{returns-refused, disable-refused, disable-refused-8, disable-started, slot-counted}
 use Rattle.commands.proofs.disabling.disable_by.Statement.{statement}
 use Rattle.commands.proofs.disabling.disable_by.Tie as tie
@@ -25,7 +26,7 @@ noted-count ks e = ap (λ (f : Noted). f .count) e
 -- what the view says of where the blocks are
 where-blocks-are : (s : tie.Start) → Located (s .args .image .now) (s .args .v)
 where-blocks-are s =
-    located (setting (s .args .granule) (s .args .v .spt0) (s .args .v .spt1)) (s .args .image .now) (s .args .v)
+    located (s .args .setting) (s .args .image .now) (s .args .v)
     (s .pre)
 
 -- the table and the pointer block read
@@ -36,7 +37,7 @@ blocks-read c =
     let at-block-at2 = c .before .before in
     let at-block-at = at-block-at2 .before in
     let s = at-block-at .before .before .before .before .before in
-    readable (s .args .image .now) (s .args .v) (where-blocks-are s) (at-block-at .block-at .result .now)
+    readable (where-blocks-are s) (at-block-at .block-at .result .now)
     (at-block-at2 .block-at2 .result .now) (c .before .rows-of .result) (c .places-of .result)
     (at-block-at .block-at .ensures) (at-block-at2 .block-at2 .ensures) (c .before .rows-of .ensures)
     (c .places-of .ensures)
@@ -70,13 +71,13 @@ rows-of-requires c κs =
     let at-block-at = c .before in
     let s = at-block-at .before .before .before .before .before in
     let t = at-block-at .block-at .result .now in
-    has-entries (s .args .image .now) (s .args .v) (where-blocks-are s) t (entry-count t) (at-block-at .block-at .ensures) refl
+    has-entries (where-blocks-are s) t (entry-count t) (at-block-at .block-at .ensures) refl
 
 places-of-requires : tie.Need-places-of-requires
 places-of-requires c κs =
     let at-block-at2 = c .before in
     let s = at-block-at2 .before .before .before .before .before .before in
-    stands (s .args .image .now) (s .args .v) (where-blocks-are s) (at-block-at2 .block-at2 .result .now)
+    has-pointers (where-blocks-are s) (at-block-at2 .block-at2 .result .now)
     (at-block-at2 .block-at2 .ensures)
 
 slot-start-requires : tie.Need-slot-start-requires
@@ -88,7 +89,7 @@ slot-start-requires c κs =
     let s = at-ask-slot .before .before in
     let a = s .args in (
       blocks-read c .table,
-      slot-counted (setting (a .granule) (a .v .spt0) (a .v .spt1)) (a .image .now) (a .v) (s .pre) (a .slot .0)
+      slot-counted (a .setting) (a .image .now) (a .v) (s .pre) (a .slot .0)
           (at-ask-slot .ask-slot .result) (at-ask-slot .ask-slot .ensures) (at-enum-told .enum-told .given .1)
           (at-block-at .block-at .result .now) (at-block-at2 .block-at2 .result .now)
           (at-block-at .block-at .ensures .0) (at-block-at2 .block-at2 .ensures .0),
@@ -111,24 +112,24 @@ returns c =
     let s = at-ask-slot .before .before in
     let a = s .args in
     let img = a .image .now in
-    let st = setting (a .granule) (a .v .spt0) (a .v .spt1) in
+    let st = a .setting in
     let t = at-block-at .block-at .result .now in
     let p = at-block-at2 .block-at2 .result .now in
     let ks = places-giving t p (a .slot .0) in
     let none : length ks ≡ 0 = sym (noted-count ks (at-giving .giving .ensures)) ∙ at-if1 .if1 .taken in
-    returns-refused st img (a .v) (disable (a .slot .0)) (c .refuse2 .result) 8
+    returns-refused st img (a .v) (disable (a .slot .0)) (c .refuse2 .result) (numbered 8)
     (c .refuse2 .ensures)
     (disable-refused-8 st img (a .v) (s .pre) (a .slot .0) (at-ask-slot .ask-slot .result)
     (at-ask-slot .ask-slot .ensures) (at-enum-told .enum-told .given .1) t p
     (at-block-at .block-at .ensures .0) (at-block-at2 .block-at2 .ensures .0) ks refl none)
 
-cast-disable-job : tie.Need-cast-disable-job
-cast-disable-job c =
+cast-at0 : tie.Need-cast-at0
+cast-at0 c =
     let s = c .before .before .before .before .before .before .before .before .before .before .before .before .before in
     let l = where-blocks-are s in omega (arith, l .cpb0-inside, l .short)
 
-cast-disable-job-2 : tie.Need-cast-disable-job-2
-cast-disable-job-2 c =
+cast-at1 : tie.Need-cast-at1
+cast-at1 c =
     let s = c .before .before .before .before .before .before .before .before .before .before .before .before .before .before in
     let l = where-blocks-are s in omega (arith, l .cpb1-inside, l .short)
 
@@ -148,7 +149,7 @@ returns-2 c =
     let s = at-ask-slot .before .before in
     let a = s .args in
     let img = a .image .now in
-    let st = setting (a .granule) (a .v .spt0) (a .v .spt1) in
+    let st = a .setting in
     returns-refused st img (a .v) (disable (a .slot .0)) (c .refuse .result)
     (at-asked .asked .given .0 .0)
     (c .refuse .ensures)
@@ -168,7 +169,7 @@ returns-3 c =
     let s = at-ask-slot .before .before in
     let a = s .args in
     let img = a .image .now in
-    let st = setting (a .granule) (a .v .spt0) (a .v .spt1) in
+    let st = a .setting in
     let t = at-block-at .block-at .result .now in
     let p = at-block-at2 .block-at2 .result .now in
     let ks = places-giving t p (a .slot .0) in
@@ -194,8 +195,8 @@ disable-by-spec =
     giving-requires
     refuse-requires-2
     returns
-    cast-disable-job
-    cast-disable-job-2
+    cast-at0
+    cast-at1
     disable-job-requires
     begun-requires
     returns-2

@@ -40,7 +40,7 @@ returns c =
     let s = at-half-cleared-names .before .before .before in
     let a = s .args in
     c .pair-rewritten .ensures
-    ∙ (disable-rewrite (a .len) (a .granule) (a .cpb0) (a .cpb1) (starts (a .t .now)) (a .p .now) (a .slot .0)
+    ∙ (disable-rewrite (a .to .len) (a .to .granule) (a .to .at0) (a .to .at1) (starts (a .t .now)) (a .p .now) (a .slot .0)
     (a .start) (s .pre .0 .1) (at-order-without .order-without .result .block)
     (sym (half-cleared at-half-cleared-names) ∙ at-if1 .if1 .taken)
     (ap (λ (m : Packed). m .block) (at-order-without .order-without .ensures)))
@@ -66,7 +66,7 @@ returns-2 c =
     let s = at-half-cleared-names .before .before .before in
     let a = s .args in
     c .into-places .ensures
-    ∙ (disable-in-place (a .len) (a .granule) (a .cpb0) (a .cpb1) (starts (a .t .now)) (a .p .now) (a .slot .0)
+    ∙ (disable-in-place (a .to .len) (a .to .granule) (a .to .at0) (a .to .at1) (starts (a .t .now)) (a .p .now) (a .slot .0)
     (a .start) (s .pre .0 .1) (a .places .offset) (a .found) (at-bytes-of .bytes-of .result)
     (sym (half-cleared at-half-cleared-names) ∙ at-if1 .if1 .left)
     (offset-is (a .p .now) (a .places) (s .pre .0 .0 .pointers)) (s .pre .1) (at-bytes-of .bytes-of .ensures))

@@ -2,11 +2,11 @@
 use mathlib.Core.Path.{refl}
 use native.Mathlib.Omega.{arith}
 use borrow.Author.Needs.{needs}
-use Rattle.rules.specs.Numbers.{setting}
 use Rattle.rules.specs.Table.{entry-count}
 use Rattle.rules.specs.Commands.{enable}
-use Rattle.commands.specs.Inner.Asked.{Located}
-use Rattle.commands.proofs.Locating.{located, has-entries, stands, readable}
+use Rattle.reading.specs.Inner.Located.{Located}
+use Rattle.reading.proofs.Opening.{located, has-entries, has-pointers}
+use Rattle.commands.proofs.Locating.{readable}
 use Rattle.commands.proofs.Asking.{returns-refused, enable-refused, enable-started, slot-counted}
 use Rattle.commands.proofs.enabling.enable_by.Statement.{statement}
 use Rattle.commands.proofs.enabling.enable_by.Tie as tie
@@ -14,7 +14,7 @@ use Rattle.commands.proofs.enabling.enable_by.Tie as tie
 -- what the view says of where the blocks are
 where-blocks-are : (s : tie.Start) → Located (s .args .image .now) (s .args .v)
 where-blocks-are s =
-    located (setting (s .args .granule) (s .args .v .spt0) (s .args .v .spt1)) (s .args .image .now) (s .args .v)
+    located (s .args .setting) (s .args .image .now) (s .args .v)
     (s .pre)
 
 ask-slot-requires : tie.Need-ask-slot-requires
@@ -46,22 +46,22 @@ rows-of-requires c κs =
     let at-block-at = c .before in
     let s = at-block-at .before .before .before .before .before in
     let t = at-block-at .block-at .result .now in
-    has-entries (s .args .image .now) (s .args .v) (where-blocks-are s) t (entry-count t) (at-block-at .block-at .ensures) refl
+    has-entries (where-blocks-are s) t (entry-count t) (at-block-at .block-at .ensures) refl
 
 places-of-requires : tie.Need-places-of-requires
 places-of-requires c κs =
     let at-block-at2 = c .before in
     let s = at-block-at2 .before .before .before .before .before .before in
-    stands (s .args .image .now) (s .args .v) (where-blocks-are s) (at-block-at2 .block-at2 .result .now)
+    has-pointers (where-blocks-are s) (at-block-at2 .block-at2 .result .now)
     (at-block-at2 .block-at2 .ensures)
 
-cast-enable-job : tie.Need-cast-enable-job
-cast-enable-job c =
+cast-at0 : tie.Need-cast-at0
+cast-at0 c =
     let s = c .before .before .before .before .before .before .before .before .before in
     let l = where-blocks-are s in omega (arith, l .cpb0-inside, l .short)
 
-cast-enable-job-2 : tie.Need-cast-enable-job-2
-cast-enable-job-2 c =
+cast-at1 : tie.Need-cast-at1
+cast-at1 c =
     let s = c .before .before .before .before .before .before .before .before .before .before in
     let l = where-blocks-are s in omega (arith, l .cpb1-inside, l .short)
 
@@ -76,10 +76,10 @@ enable-job-requires c κs =
     let s = at-ask-slot .before .before in
     let a = s .args in
     let img = a .image .now in
-    let st = setting (a .granule) (a .v .spt0) (a .v .spt1) in
+    let st = a .setting in
     let t = at-block-at .block-at .result .now in
     let p = at-block-at2 .block-at2 .result .now in (
-      readable img (a .v) (where-blocks-are s) t p (at-rows-of .rows-of .result) (at-places-of .places-of .result)
+      readable (where-blocks-are s) t p (at-rows-of .rows-of .result) (at-places-of .places-of .result)
           (at-block-at .block-at .ensures) (at-block-at2 .block-at2 .ensures) (at-rows-of .rows-of .ensures)
           (at-places-of .places-of .ensures),
       slot-counted st img (a .v) (s .pre) (a .slot .0) (at-ask-slot .ask-slot .result) (at-ask-slot .ask-slot .ensures)
@@ -96,7 +96,7 @@ returns c =
     let s = at-ask-slot .before .before in
     let a = s .args in
     let img = a .image .now in
-    let st = setting (a .granule) (a .v .spt0) (a .v .spt1) in
+    let st = a .setting in
     returns-refused st img (a .v) (enable (a .slot .0)) (c .refuse .result)
     (at-asked .asked .given .0 .0)
     (c .refuse .ensures)
@@ -114,7 +114,7 @@ returns-2 c =
     let s = at-ask-slot .before .before in
     let a = s .args in
     let img = a .image .now in
-    let st = setting (a .granule) (a .v .spt0) (a .v .spt1) in
+    let st = a .setting in
     enable-started st img (a .v) (s .pre) (a .slot .0) (at-ask-slot .ask-slot .result)
     (at-ask-slot .ask-slot .ensures) (at-enum-told .enum-told .given .1) (at-block-at .block-at .result .now)
     (at-block-at2 .block-at2 .result .now) (at-block-at .block-at .ensures .0) (at-block-at2 .block-at2 .ensures .0)
@@ -132,8 +132,8 @@ enable-by-spec =
     block-at-requires-2
     rows-of-requires
     places-of-requires
-    cast-enable-job
-    cast-enable-job-2
+    cast-at0
+    cast-at1
     enable-job-requires
     begun-requires
     returns

@@ -37,7 +37,7 @@ returns c =
     let start = at-comes-first .before .before .before in
     let a = start .args in
     c .no-steps .ensures
-    ∙ (enable-none (a .len) (a .granule) (a .cpb0) (a .cpb1) (starts (a .t .now)) (a .p .now) (a .slot .0)
+    ∙ (enable-none (a .to .len) (a .to .granule) (a .to .at0) (a .to .at1) (starts (a .t .now)) (a .p .now) (a .slot .0)
     (sym (at-comes-first .comes-first .ensures) ∙ at-if1 .if1 .taken))
 
 slot-start-requires : tie.Need-slot-start-requires
@@ -76,7 +76,7 @@ returns-2 c =
     let a = start .args in
     let h = start .pre .0 .pointers in
     c .into-places .ensures
-    ∙ (enable-place (a .len) (a .granule) (a .cpb0) (a .cpb1) (starts (a .t .now)) (a .p .now) (a .slot .0)
+    ∙ (enable-place (a .to .len) (a .to .granule) (a .to .at0) (a .to .at1) (starts (a .t .now)) (a .p .now) (a .slot .0)
     (sym (at-comes-first .comes-first .ensures) ∙ at-if1 .if1 .left) (a .places .free .0)
     (at-slot-start .slot-start .result)
     (free-by-definition start) (at-slot-start .slot-start .ensures) (a .places .offset) (at-one-place .one-place .result)
@@ -101,7 +101,7 @@ returns-3 c =
     let start = at-comes-first .before .before .before in
     let a = start .args in
     c .pair-rewritten .ensures
-    ∙ (enable-rewrite (a .len) (a .granule) (a .cpb0) (a .cpb1) (starts (a .t .now)) (a .p .now) (a .slot .0)
+    ∙ (enable-rewrite (a .to .len) (a .to .granule) (a .to .at0) (a .to .at1) (starts (a .t .now)) (a .p .now) (a .slot .0)
     (sym (at-comes-first .comes-first .ensures) ∙ at-if1 .if1 .left) (a .places .free .0)
     (at-slot-start .slot-start .result)
     (free-by-definition start) (at-slot-start .slot-start .ensures) (at-order-with-first .order-with-first .result)

@@ -2,10 +2,9 @@
 use mathlib.Core.Path.{_∙_}
 use native.Mathlib.Omega.{arith}
 use borrow.Author.Needs.{needs}
-use Rattle.rules.specs.Numbers.{setting}
 use Rattle.commands.specs.JobFor.{repair-job}
-use Rattle.commands.specs.Inner.Asked.{Located}
-use Rattle.commands.proofs.Locating.{located}
+use Rattle.reading.specs.Inner.Located.{Located}
+use Rattle.reading.proofs.Opening.{located}
 use Rattle.commands.proofs.Asking.{repair-started}
 use Rattle.commands.proofs.pairs.repair_by.Statement.{statement}
 use Rattle.commands.proofs.pairs.repair_by.Tie as tie
@@ -13,7 +12,7 @@ use Rattle.commands.proofs.pairs.repair_by.Tie as tie
 -- what the view says of where the blocks are
 where-blocks-are : (s : tie.Start) → Located (s .args .image .now) (s .args .v)
 where-blocks-are s =
-    located (setting (s .args .granule) (s .args .v .spt0) (s .args .v .spt1)) (s .args .image .now) (s .args .v)
+    located (s .args .setting) (s .args .image .now) (s .args .v)
     (s .pre)
 
 repaired-requires : tie.Need-repaired-requires
@@ -41,7 +40,7 @@ returns c =
     let at-repaired2 = at-rewrites .before in
     let at-repaired = at-repaired2 .before in
     let a = at-repaired .before .before .args in
-    repair-started (setting (a .granule) (a .v .spt0) (a .v .spt1)) (a .image .now) (a .v) (c .begun .result)
+    repair-started (a .setting) (a .image .now) (a .v) (c .begun .result)
     (at-rewrites .rewrites .result) (c .begun .ensures)
     (at-rewrites .rewrites .ensures ∙ rw (at-repaired .repaired .ensures, at-repaired2 .repaired2 .ensures))
 

@@ -6,7 +6,7 @@ use borrow.Author.Tests.{not-true, not-false}
 use borrow.Author.Needs.{needs}
 use Rattle.commands.specs.Inner.Asked.{outcome, copies-equal}
 use Rattle.commands.proofs.Asking.{copies-differ, no-such-slot, slot-found}
-use Rattle.commands.proofs.Locating.{has-entries}
+use Rattle.reading.proofs.Opening.{has-entries}
 use Rattle.commands.proofs.refusals.ask_slot.Statement.{statement}
 use Rattle.commands.proofs.refusals.ask_slot.Tie as tie
 
@@ -37,7 +37,7 @@ count-slots-requires : tie.Need-count-slots-requires
 count-slots-requires c κs =
     let at-block-at = c .before in
     let start = at-block-at .before .before .before .before .before in
-    has-entries (start .args .image .now) (start .args .v) (start .pre) (at-block-at .block-at .result .now)
+    has-entries (start .pre) (at-block-at .block-at .result .now)
     (c .entry-count .result) (at-block-at .block-at .ensures) (c .entry-count .ensures)
 
 cast-if2 : tie.Need-cast-if2

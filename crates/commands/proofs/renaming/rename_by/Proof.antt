@@ -4,7 +4,7 @@ use Prim.Native.Nat.{_≤_}
 use native.Mathlib.Omega.{arith}
 use lib.ListN.{length}
 use borrow.Author.Needs.{needs}
-use Rattle.rules.specs.Numbers.{setting}
+use Rattle.rules.specs.Answers.{numbered}
 use Rattle.rules.specs.Bytes.{block}
 use Rattle.rules.specs.Table.{entry-count}
 use Rattle.rules.specs.Commands.{rename}
@@ -12,8 +12,8 @@ use Rattle.rules.proofs.Table.Renaming.{allowed}
 use Rattle.walks.specs.Entries.{most-entries}
 use Rattle.walks.proofs.Joined.{failed, passed}
 use Rattle.blocks.proofs.Naming.{whole-name}
-use Rattle.commands.specs.Inner.Asked.{Located}
-use Rattle.commands.proofs.Locating.{located, has-entries}
+use Rattle.reading.specs.Inner.Located.{Located}
+use Rattle.reading.proofs.Opening.{located, has-entries}
 use Rattle.commands.proofs.CommandJobs.{rename-by-row}
 use Rattle.commands.proofs.Asking.{returns-refused, rename-refused, rename-refused-9, rename-refused-10, rename-started, row-below}
 use Rattle.commands.proofs.renaming.rename_by.Statement.{statement}
@@ -22,7 +22,7 @@ use Rattle.commands.proofs.renaming.rename_by.Tie as tie
 -- what the view says of where the blocks are
 where-blocks-are : (s : tie.Start) → Located (s .args .image .now) (s .args .v)
 where-blocks-are s =
-    located (setting (s .args .granule) (s .args .v .spt0) (s .args .v .spt1)) (s .args .image .now) (s .args .v)
+    located (s .args .setting) (s .args .image .now) (s .args .v)
     (s .pre)
 
 ask-slot-requires : tie.Need-ask-slot-requires
@@ -54,9 +54,9 @@ returns c =
     let s = at-ask-slot .before .before .before in
     let a = s .args in
     let img = a .image .now in
-    let st = setting (a .granule) (a .v .spt0) (a .v .spt1) in
+    let st = a .setting in
     let t = block img (a .v .table) in
-    returns-refused st img (a .v) (rename (a .slot .0) (a .name .now)) (c .refuse2 .result) 9
+    returns-refused st img (a .v) (rename (a .slot .0) (a .name .now)) (c .refuse2 .result) (numbered 9)
     (c .refuse2 .ensures)
     (rename-refused-9 st img (a .v) (s .pre) (a .slot .0) (at-ask-slot .ask-slot .result)
     (at-ask-slot .ask-slot .ensures) (at-enum-told .enum-told .given .1) t
@@ -74,7 +74,7 @@ slot-row-requires : tie.Need-slot-row-requires
 slot-row-requires c κs =
     let at-block-at = c .before in
     let s = at-block-at .before .before .before .before .before .before .before .before in
-    has-entries (s .args .image .now) (s .args .v) (where-blocks-are s) (at-block-at .block-at .result .now)
+    has-entries (where-blocks-are s) (at-block-at .block-at .result .now)
     (c .entry-count .result) (at-block-at .block-at .ensures) (c .entry-count .ensures)
 
 name-free-requires : tie.Need-name-free-requires
@@ -82,7 +82,7 @@ name-free-requires c κs =
     let at-entry-count = c .before in
     let at-block-at = at-entry-count .before in
     let s = at-block-at .before .before .before .before .before .before .before .before in
-    has-entries (s .args .image .now) (s .args .v) (where-blocks-are s) (at-block-at .block-at .result .now)
+    has-entries (where-blocks-are s) (at-block-at .block-at .result .now)
     (at-entry-count .entry-count .result) (at-block-at .block-at .ensures) (at-entry-count .entry-count .ensures)
 
 refuse-requires-3 : tie.Need-refuse-requires-3
@@ -102,10 +102,10 @@ returns-2 c =
     let s = at-ask-slot .before .before .before in
     let a = s .args in
     let img = a .image .now in
-    let st = setting (a .granule) (a .v .spt0) (a .v .spt1) in
+    let st = a .setting in
     let name-right = passed (at-name-allowed .name-allowed .ensures) (at-if1 .if1 .left) in
     let whole = whole-name (a .name .now) (allowed (a .name .now) name-right .without-zero) in
-    returns-refused st img (a .v) (rename (a .slot .0) (a .name .now)) (c .refuse3 .result) 10
+    returns-refused st img (a .v) (rename (a .slot .0) (a .name .now)) (c .refuse3 .result) (numbered 10)
     (c .refuse3 .ensures)
     (rename-refused-10 st img (a .v) (s .pre) (a .slot .0) (at-ask-slot .ask-slot .result)
     (at-ask-slot .ask-slot .ensures) (at-enum-told .enum-told .given .1)
@@ -114,13 +114,13 @@ returns-2 c =
     (failed (rw (at-slot-row .slot-row .ensures .0, whole) at (at-name-free .name-free .ensures))
     (at-if2 .if2 .taken)))
 
-cast-rename-job : tie.Need-cast-rename-job
-cast-rename-job c =
+cast-at0 : tie.Need-cast-at0
+cast-at0 c =
     let s = c .before .before .before .before .before .before .before .before .before .before .before .before .before in
     let l = where-blocks-are s in omega (arith, l .spt0-inside, l .short)
 
-cast-rename-job-2 : tie.Need-cast-rename-job-2
-cast-rename-job-2 c =
+cast-at1 : tie.Need-cast-at1
+cast-at1 c =
     let s = c .before .before .before .before .before .before .before .before .before .before .before .before .before .before in
     let l = where-blocks-are s in omega (arith, l .spt1-inside, l .short)
 
@@ -137,7 +137,7 @@ rename-job-requires c κs =
     let l = where-blocks-are s in
     let a = s .args in
     let img = a .image .now in
-    let st = setting (a .granule) (a .v .spt0) (a .v .spt1) in
+    let st = a .setting in
     let name-right = passed (at-name-allowed .name-allowed .ensures) (at-if1 .if1 .left) in
     let few : at-entry-count .entry-count .result ≤ most-entries = rw
     (at-entry-count .entry-count .ensures, at-block-at .block-at .ensures .0) (l .count-right) in
@@ -158,7 +158,7 @@ returns-3 c =
     let s = at-ask-slot .before .before .before in
     let a = s .args in
     let img = a .image .now in
-    let st = setting (a .granule) (a .v .spt0) (a .v .spt1) in
+    let st = a .setting in
     returns-refused st img (a .v) (rename (a .slot .0) (a .name .now)) (c .refuse .result)
     (at-asked .asked .given .0 .0) (c .refuse .ensures)
     (rename-refused st img (a .v) (s .pre) (a .slot .0) (at-ask-slot .ask-slot .result)
@@ -180,7 +180,7 @@ returns-4 c =
     let s = at-ask-slot .before .before .before in
     let a = s .args in
     let img = a .image .now in
-    let st = setting (a .granule) (a .v .spt0) (a .v .spt1) in
+    let st = a .setting in
     let t = at-block-at .block-at .result .now in
     let n = at-entry-count .entry-count .result in
     let row = at-slot-row .slot-row .result .0 in
@@ -197,7 +197,7 @@ returns-4 c =
     (at-if2 .if2 .left))
     (c .begun .result) (at-rename-job .rename-job .result) (c .begun .ensures)
     (at-rename-job .rename-job .ensures
-    ∙ rename-by-row (length img) (a .granule) (a .v .spt0) (a .v .spt1) (a .slot .0) row n t (a .name .now)
+    ∙ rename-by-row (length img) (a .setting .granule) (a .v .spt0) (a .v .spt1) (a .slot .0) row n t (a .name .now)
     (at-entry-count .entry-count .ensures) (at-slot-row .slot-row .ensures .0) row-counted whole)
 
 pub rename-by-spec : {M : Type 1} → statement M
@@ -217,8 +217,8 @@ rename-by-spec =
     name-free-requires
     refuse-requires-3
     returns-2
-    cast-rename-job
-    cast-rename-job-2
+    cast-at0
+    cast-at1
     rename-job-requires
     begun-requires
     returns-3

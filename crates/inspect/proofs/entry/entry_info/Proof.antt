@@ -1,11 +1,12 @@
 -- `inspect::entry::entry_info` is what the table read says of an entry, or a refusal of the view. Assumes nothing.
-use mathlib.Core.Path.{sym, _∙_}
+use mathlib.Core.Path.{refl, _∙_}
 use borrow.Author.Needs.{needs}
+use Rattle.rules.specs.Answers.{_>>=_}
 use Rattle.rules.specs.Bytes.{block}
 use Rattle.rules.specs.Table.{entries}
 use Rattle.reading.specs.Answers.{known}
+use Rattle.reading.proofs.Opening.{was-viewed, was-refused, opened, has-entries}
 use Rattle.inspect.specs.Entries.{info-in, entry-info}
-use Rattle.inspect.proofs.Inside.{of-view, no-view, table-within, has-entries}
 use Rattle.inspect.proofs.entry.entry_info.Statement.{statement}
 use Rattle.inspect.proofs.entry.entry_info.Tie as tie
 
@@ -21,36 +22,28 @@ enum-known-seen-2 c = search needs
 block-at-requires : tie.Need-block-at-requires
 block-at-requires c κs =
     let called = c .before .before .before in
-    let a = called .before .before .args in
-    table-within (a .granule) (a .spt0) (a .spt1) (a .image .now) (called .view .ensures) (c .before .seen2 .given .1)
+    opened _ _ (called .view .ensures) (c .before .seen2 .given .1) .table-inside
 
 info-in-requires : tie.Need-info-in-requires
 info-in-requires c κs =
     let seen = c .before .before in
     let called = seen .before .before in
-    let a = called .before .before .args in
-    has-entries (a .granule) (a .spt0) (a .spt1) (a .image .now) (called .view .ensures) (seen .seen2 .given .1)
-    (c .block-at .result .now) (c .block-at .ensures)
+    has-entries (opened _ _ (called .view .ensures) (seen .seen2 .given .1)) _ _ (c .block-at .ensures) refl
 
 returns : tie.Need-returns
-unfolding known entry-info
+unfolding known entry-info _>>=_
 returns c =
     let called = c .before .before .before in
-    let a = called .before .before .args in
-    sym (no-view (a .granule) (a .spt0) (a .spt1) (a .image .now) (called .view .ensures) _ (c .before .seen .given .1))
+    rw (was-refused _ _ (called .view .ensures) (c .before .seen .given .1))
 
 returns-2 : tie.Need-returns-2
-unfolding entry-info
+unfolding entry-info _>>=_
 returns-2 c =
     let table = c .before in
     let seen = table .before .before in
     let called = seen .before .before in
-    let a = called .before .before .args in
     c .info-in .ensures
-    ∙ rw (table .block-at .ensures .0)
-    (sym
-    (of-view (a .granule) (a .spt0) (a .spt1) (a .image .now) (called .view .ensures)
-    (λ _ v. info-in (entries (block (a .image .now) (v .table))) (a .entry .0)) (seen .seen2 .given .1)))
+    ∙ rw (table .block-at .ensures .0, was-viewed _ _ (called .view .ensures) (seen .seen2 .given .1))
 
 pub entry-info-spec : {M : Type 1} → statement M
 entry-info-spec =

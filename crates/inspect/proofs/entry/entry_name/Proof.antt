@@ -1,11 +1,8 @@
 -- `inspect::entry::entry_name` is the name by the table read, or an empty part. Assumes nothing.
-use mathlib.Core.Path.{sym, ap, _∙_}
+use mathlib.Core.Path.{refl, sym, _∙_}
 use borrow.Author.Needs.{needs}
-use Rattle.rules.specs.Numbers.{setting}
-use Rattle.rules.specs.Table.{entries}
-use Rattle.reading.proofs.ByView.{no-table, table-by-view}
-use Rattle.inspect.specs.Entries.{name-in, entry-name}
-use Rattle.inspect.proofs.Inside.{table-within, has-entries}
+use Rattle.reading.proofs.Opening.{opened, table-of-view, no-table, has-entries}
+use Rattle.inspect.specs.Entries.{entry-name}
 use Rattle.inspect.proofs.EntryNames.{no-entry-name}
 use Rattle.inspect.proofs.entry.entry_name.Statement.{statement}
 use Rattle.inspect.proofs.entry.entry_name.Tie as tie
@@ -25,25 +22,21 @@ enum-known-seen c = search needs
 block-at-requires : tie.Need-block-at-requires
 block-at-requires c κs =
     let called = c .before .before .before in
-    let a = called .before .before .args in
-    table-within (a .granule) (a .spt0) (a .spt1) (a .image .now) (called .view .ensures) (c .before .seen .given .1)
+    opened _ _ (called .view .ensures) (c .before .seen .given .1) .table-inside
 
 name-in-requires : tie.Need-name-in-requires
 name-in-requires c κs =
     let seen = c .before .before in
     let called = seen .before .before in
-    let a = called .before .before .args in
-    has-entries (a .granule) (a .spt0) (a .spt1) (a .image .now) (called .view .ensures) (seen .seen .given .1)
-    (c .block-at .result .now) (c .block-at .ensures)
+    has-entries (opened _ _ (called .view .ensures) (seen .seen .given .1)) _ _ (c .block-at .ensures) refl
 
 returns : tie.Need-returns
 unfolding entry-name
 returns c =
     let called = c .before .before .before in
-    let a = called .before .before .args in
-    rw (no-table (setting (a .granule) (a .spt0) (a .spt1)) (a .image .now) (called .view .ensures)
+    rw (no-table _ _ (called .view .ensures)
     (c .before .enum-told .given .1))
-    (sym (no-entry-name (a .entry .0)))
+    (sym (no-entry-name _))
 
 returns-2 : tie.Need-returns-2
 unfolding entry-name
@@ -51,11 +44,10 @@ returns-2 c =
     let table = c .before in
     let seen = table .before .before in
     let called = seen .before .before in
-    let a = called .before .before .args in
     c .name-in .ensures
     ∙ rw (
       table .block-at .ensures .0,
-      table-by-view (setting (a .granule) (a .spt0) (a .spt1)) (a .image .now) (called .view .ensures)
+      table-of-view _ _ (called .view .ensures)
           (seen .seen .given .1),
     )
 

@@ -1,12 +1,11 @@
 -- `inspect::entry::entry_total` is the count of the table read, or a refusal of the view. Assumes nothing.
-use mathlib.Core.Path.{sym}
 use borrow.Author.Needs.{needs}
+use Rattle.rules.specs.Answers.{_>>=_}
 use Rattle.rules.specs.Bytes.{block}
-use Rattle.rules.specs.Answers.{given}
 use Rattle.rules.specs.Table.{entry-count}
+use Rattle.reading.proofs.Opening.{was-viewed, was-refused, opened}
 use Rattle.inspect.specs.Totals.{totalled}
 use Rattle.inspect.specs.Entries.{entry-total}
-use Rattle.inspect.proofs.Inside.{of-view, no-view, table-within}
 use Rattle.inspect.proofs.entry.entry_total.Statement.{statement}
 use Rattle.inspect.proofs.entry.entry_total.Tie as tie
 
@@ -22,30 +21,24 @@ enum-known-seen-2 c = search needs
 block-at-requires : tie.Need-block-at-requires
 block-at-requires c κs =
     let called = c .before .before .before in
-    let a = called .before .before .args in
-    table-within (a .granule) (a .spt0) (a .spt1) (a .image .now) (called .view .ensures) (c .before .seen2 .given .1)
+    opened _ _ (called .view .ensures) (c .before .seen2 .given .1) .table-inside
 
 entry-count-requires : tie.Need-entry-count-requires
 entry-count-requires c κs = search needs
 
 returns : tie.Need-returns
-unfolding totalled entry-total
+unfolding totalled entry-total _>>=_
 returns c =
     let called = c .before .before .before in
-    let a = called .before .before .args in
-    sym (no-view (a .granule) (a .spt0) (a .spt1) (a .image .now) (called .view .ensures) _ (c .before .seen .given .1))
+    rw (was-refused _ _ (called .view .ensures) (c .before .seen .given .1))
 
 returns-2 : tie.Need-returns-2
-unfolding totalled entry-total
+unfolding totalled entry-total _>>=_
 returns-2 c =
     let table = c .before in
     let seen = table .before .before in
     let called = seen .before .before in
-    let a = called .before .before .args in
-    rw (c .entry-count .ensures, table .block-at .ensures .0)
-    (sym
-    (of-view (a .granule) (a .spt0) (a .spt1) (a .image .now) (called .view .ensures)
-    (λ _ v. given (entry-count (block (a .image .now) (v .table)))) (seen .seen2 .given .1)))
+    rw (c .entry-count .ensures, table .block-at .ensures .0, was-viewed _ _ (called .view .ensures) (seen .seen2 .given .1))
 
 pub entry-total-spec : {M : Type 1} → statement M
 entry-total-spec =

@@ -1,13 +1,12 @@
 -- `inspect::place::place_total` is the count of places of the pointer block read, or a refusal of the view. Assumes nothing.
-use mathlib.Core.Path.{sym}
 use borrow.Author.Needs.{needs}
+use Rattle.rules.specs.Answers.{_>>=_}
 use Rattle.rules.specs.Bytes.{block}
-use Rattle.rules.specs.Answers.{given}
 use Rattle.rules.specs.Pointers.{place-count}
 use Rattle.places.specs.Inner.PlacesOf.{places-of}
+use Rattle.reading.proofs.Opening.{was-viewed, was-refused, opened, has-pointers}
 use Rattle.inspect.specs.Totals.{totalled}
 use Rattle.inspect.specs.Places.{place-total}
-use Rattle.inspect.proofs.Inside.{of-view, no-view, pointers-within, has-pointers}
 use Rattle.inspect.proofs.place.place_total.Statement.{statement}
 use Rattle.inspect.proofs.place.place_total.Tie as tie
 
@@ -23,35 +22,27 @@ enum-known-seen-2 c = search needs
 block-at-requires : tie.Need-block-at-requires
 block-at-requires c κs =
     let called = c .before .before .before in
-    let a = called .before .before .args in
-    pointers-within (a .granule) (a .spt0) (a .spt1) (a .image .now) (called .view .ensures) (c .before .seen2 .given .1)
+    opened _ _ (called .view .ensures) (c .before .seen2 .given .1) .pointers-inside
 
 places-of-requires : tie.Need-places-of-requires
 places-of-requires c κs =
     let seen = c .before .before in
     let called = seen .before .before in
-    let a = called .before .before .args in
-    has-pointers (a .granule) (a .spt0) (a .spt1) (a .image .now) (called .view .ensures) (seen .seen2 .given .1)
-    (c .block-at .result .now) (c .block-at .ensures)
+    has-pointers (opened _ _ (called .view .ensures) (seen .seen2 .given .1)) _ (c .block-at .ensures)
 
 returns : tie.Need-returns
-unfolding totalled place-total
+unfolding totalled place-total _>>=_
 returns c =
     let called = c .before .before .before in
-    let a = called .before .before .args in
-    sym (no-view (a .granule) (a .spt0) (a .spt1) (a .image .now) (called .view .ensures) _ (c .before .seen .given .1))
+    rw (was-refused _ _ (called .view .ensures) (c .before .seen .given .1))
 
 returns-2 : tie.Need-returns-2
-unfolding totalled place-total places-of
+unfolding totalled place-total places-of _>>=_
 returns-2 c =
     let pointers = c .before in
     let seen = pointers .before .before in
     let called = seen .before .before in
-    let a = called .before .before .args in
-    rw (c .places-of .ensures, pointers .block-at .ensures .0)
-    (sym
-    (of-view (a .granule) (a .spt0) (a .spt1) (a .image .now) (called .view .ensures)
-    (λ _ v. given (place-count (block (a .image .now) (v .pointers)))) (seen .seen2 .given .1)))
+    rw (c .places-of .ensures, pointers .block-at .ensures .0, was-viewed _ _ (called .view .ensures) (seen .seen2 .given .1))
 
 pub place-total-spec : {M : Type 1} → statement M
 place-total-spec =

@@ -41,7 +41,7 @@ returns-2 c =
     let at-if1 = at-advance .before .before in
     let t = at-if1 .before .is-job in
     let a = at-if1 .before .before .before .before .args in
-    count-refused (a .job .now) (at-advance .advance .last .0) (a .steps) (at-did .did .given .0 .0) (a .count .now)
+    count-refused (a .job .now) (at-advance .advance .last .0) (a .steps) (a .count .now)
     (job-held (a .job .now) (t .result) (t .ensures) (at-if1 .if1 .left)) (at-advance .advance .result)
     (at-advance .advance .ensures) (at-did .did .given .1)
 
@@ -55,7 +55,7 @@ returns-3 c =
     let at-if1 = at-advance .before .before in
     let t = at-if1 .before .is-job in
     let a = at-if1 .before .before .before .before .args in
-    count-told (a .job .now) (at-advance .advance .last .0) (a .steps) (at-did .did2 .given .0 .0) (a .count .now)
+    count-told (a .job .now) (at-advance .advance .last .0) (a .steps) (a .count .now)
     (job-held (a .job .now) (t .result) (t .ensures) (at-if1 .if1 .left)) (at-advance .advance .result)
     (at-advance .advance .ensures) (at-did .did2 .given .1)
 

@@ -45,8 +45,8 @@ returns-2 c =
     let t = at-if1 .before .is-job in
     let a = at-if1 .before .before .before .before .before .args in
     let ran = at-run .run in
-    run-refused (a .job .now) (a .image .now) (ran .last .0) (ran .last .1 .0) (a .budget) (at-did .did .given .0 .0)
-    (a .done .now) (job-held (a .job .now) (t .result) (t .ensures) (at-if1 .if1 .left)) (ran .result)
+    run-refused (a .job .now) (a .image .now) (ran .last .0) (ran .last .1 .0) (a .budget)
+    (a .done .now) (job-held (a .job .now) (t .result) (t .ensures) (at-if1 .if1 .left)) _ (ran .result)
     (at-did .did .given .1) (ran .ensures)
 
 same-length-4 : tie.Need-same-length-4
@@ -63,8 +63,8 @@ returns-3 c =
     let t = at-if1 .before .is-job in
     let a = at-if1 .before .before .before .before .before .args in
     let ran = at-run .run in
-    run-went (a .job .now) (a .image .now) (ran .last .0) (ran .last .1 .0) (a .budget) (at-did .did2 .given .0 .0)
-    (a .done .now) (job-held (a .job .now) (t .result) (t .ensures) (at-if1 .if1 .left)) (ran .result)
+    run-went (a .job .now) (a .image .now) (ran .last .0) (ran .last .1 .0) (a .budget)
+    (a .done .now) (job-held (a .job .now) (t .result) (t .ensures) (at-if1 .if1 .left)) _ (ran .result)
     (at-did .did2 .given .1) (ran .ensures)
 
 pub delunkpawi-run-spec : {M : Type 1} → statement M

@@ -4,7 +4,6 @@ use mathlib.Core.Path.{_≡_, sym, _∙_}
 use native.Mathlib.Omega.{arith}
 use borrow.Author.Needs.{needs}
 use Rattle.rules.specs.Bytes.{block, up-to-zero}
-use Rattle.rules.specs.Numbers.{setting}
 use Rattle.rules.specs.Table.{entries, cpb0-name, cpb1-name, cpb0-of, cpb1-of}
 use Rattle.walks.specs.Entries.{HasEntries}
 use Rattle.reading.specs.Answers.{viewed}
@@ -59,13 +58,13 @@ pointers-stand-requires c κs =
 
 returns : tie.Need-returns
 unfolding viewed
-returns c = λ g.
+returns c =
     let named = c .before .before in
     let a = named .before .before .before .before .before .before .before .args in
     let e0 = start-0 (named .before .before) in
     rw (e0, start-1 named)
     (sym
-    (through-cpb0 (setting g (a .spt0) (a .spt1)) (a .image .now) (a .at)
+    (through-cpb0 (a .setting) (a .image .now) (a .at)
     (rw e0 at (sym (c .before .pointers-stand .ensures) ∙ c .if1 .taken))))
 
 pointers-stand-requires-2 : tie.Need-pointers-stand-requires-2
@@ -76,7 +75,7 @@ pointers-stand-requires-2 c κs =
 
 returns-2 : tie.Need-returns-2
 unfolding viewed
-returns-2 c = λ g.
+returns-2 c =
     let not-first = c .before .before in
     let named = not-first .before .before in
     let a = named .before .before .before .before .before .before .before .args in
@@ -84,18 +83,18 @@ returns-2 c = λ g.
     let e1 = start-1 named in
     rw (e0, e1)
     (sym
-    (through-cpb1 (setting g (a .spt0) (a .spt1)) (a .image .now) (a .at)
+    (through-cpb1 (a .setting) (a .image .now) (a .at)
     (rw e0 at (sym (not-first .before .pointers-stand .ensures) ∙ not-first .if1 .left))
     (rw e1 at (sym (c .before .pointers-stand2 .ensures) ∙ c .if2 .taken))))
 
 returns-3 : tie.Need-returns-3
 unfolding viewed
-returns-3 c = λ g.
+returns-3 c =
     let not-first = c .before .before in
     let named = not-first .before .before in
     let a = named .before .before .before .before .before .before .before .args in
     sym
-    (refused-5 (setting g (a .spt0) (a .spt1)) (a .image .now) (a .at)
+    (refused-5 (a .setting) (a .image .now) (a .at)
     (rw (start-0 (named .before .before)) at (sym (not-first .before .pointers-stand .ensures) ∙ not-first .if1 .left))
     (rw (start-1 named) at (sym (c .before .pointers-stand2 .ensures) ∙ c .if2 .left)))
 

@@ -2,7 +2,6 @@
 -- entries found. Assumes nothing.
 use mathlib.Core.Path.{sym}
 use borrow.Author.Needs.{needs}
-use Rattle.rules.specs.Numbers.{setting}
 use Rattle.walks.specs.Entries.{most-entries}
 use Rattle.walks.proofs.Joined.{failed, passed}
 use Rattle.table.specs.Inner.Six.{Below}
@@ -29,7 +28,7 @@ returns c =
     let found = c .before .before in
     let a = found .before .before .args in
     let missing = failed (c .before .six-are-named .ensures) (c .if1 .taken) in
-    let s = setting (a .granule) (a .spt0) (a .spt1) in
+    let s = a .setting in
     sym (not-all-named (a .n) (a .table .now) (found .find-six .ensures) s missing)
 
 boot-info-is-at-0-requires : tie.Need-boot-info-is-at-0-requires
@@ -51,7 +50,7 @@ returns-2 c =
     let found = named .before .before in
     let a = found .before .before .args in
     let all-named = passed (named .before .six-are-named .ensures) (named .if1 .left) in
-    let s = setting (a .granule) (a .spt0) (a .spt1) in
+    let s = a .setting in
     rw (
       rules-by-number (a .n) (a .table .now) (found .find-six .ensures) s all-named,
       boot .boot-info-is-at-0 .ensures,
