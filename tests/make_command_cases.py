@@ -15,9 +15,18 @@ CRATES = pathlib.Path(__file__).parent.parent / "crates"
 NEW_NAME = b"SOLVER_2027_JUL"
 WIDE = Setting(65536, 0x20000, 0x30000)
 CPB0, CPB1 = 0x6000, 0x7000
+MOVED_STARTS = (0x11000, 0x10000, 0xA000)
 
 
 # ---- images
+
+
+def sent(image, starts=(0x8000, 0x9000, 0xA000), at=0):
+    """The image with this byte of the slots at these addresses 0: they are not empty."""
+    image = bytearray(image)
+    for start in starts:
+        image[start + at] = 0
+    return bytes(image)
 
 
 def moved(held):
@@ -44,7 +53,7 @@ def with_entries(count):
 
 def damaged(at):
     """The quarry image with the last byte of the blocks at these addresses turned, so that their pairs disagree."""
-    image = bytearray(quarry())
+    image = bytearray(sent(quarry()))
     for start, k in at:
         image[start + k] ^= 1
     return bytes(image)
@@ -52,20 +61,23 @@ def damaged(at):
 
 IMAGES = {
     "quarry": quarry(),
-    "highest_506": quarry({0: 0x8000, 1: 0x9000, 506: 0x9000}),
-    "highest_507": quarry({0: 0x8000, 1: 0x9000, 507: 0x9000}),
+    "quarry_sent": sent(quarry()),
+    "last_byte_sent": sent(quarry(), (0xA000,), 4095),
+    "highest_506": sent(quarry({0: 0x8000, 1: 0x9000, 506: 0x9000})),
+    "highest_507": sent(quarry({0: 0x8000, 1: 0x9000, 507: 0x9000})),
     "moved": moved((0x11000, 0x10000)),
-    "moved_three": moved((0x10000, 0xA000, 0x11000)),
+    "moved_sent": sent(moved((0x11000, 0x10000)), MOVED_STARTS),
+    "moved_three": sent(moved((0x10000, 0xA000, 0x11000)), MOVED_STARTS),
     "first_copies_damaged": damaged([(0x4000, 0), (CPB0, 3)]),
     "second_copies_damaged": damaged([(0x5000, 4095), (CPB1, 4095)]),
-    "wide": wide(),
+    "wide": sent(wide(), (0x60000, 0x61000, 0x62000)),
     "entries_127": with_entries(127),
     "entries_128": with_entries(128),
     "no_bytes": b"",
 }
 
 
-# ---- the cases of document 01
+# ---- the cases of document 01, and of document 02, No. 2
 
 
 def title(command):
@@ -110,12 +122,14 @@ class Run:
 
 
 def cases():
-    run = Run("cases 1 and 3", "quarry")
+    run = Run("case 1", "quarry")
     run.order()
+    yield run
+    run = Run("case 3", "quarry_sent")
     run.finish("enable", 1)
     yield run
     for heading, name, place in (
-        ("case 2", "quarry", 2),
+        ("case 2", "quarry_sent", 2),
         ("case 7, highest used place 506", "highest_506", 507),
         ("case 7, highest used place 507", "highest_507", 507),
     ):
@@ -124,7 +138,7 @@ def cases():
         run.place(place)
         run.order()
         yield run
-    run = Run("case 4", "quarry")
+    run = Run("case 4", "quarry_sent")
     run.finish("enable", 0)
     run.place(2)
     run.order()
@@ -136,7 +150,7 @@ def cases():
     run.finish("enable", 3)
     run.finish("disable", 3)
     yield run
-    run = Run("case 6", "quarry")
+    run = Run("case 6", "quarry_sent")
     run.cut(("enable", 2), 15, 0)
     run.place(2)
     run.order()
@@ -169,12 +183,29 @@ def cases():
         yield run
 
 
+def empty_slots():
+    run = Run("empty slots", "quarry")
+    run.finish("enable", 1)
+    run.finish("enable", 2)
+    run.order()
+    yield run
+    run = Run("a slot of which only byte 4,095 was sent", "last_byte_sent")
+    run.finish("enable", 2)
+    run.place(2)
+    run.order()
+    yield run
+
+
 def in_order(runs):
     """By the numbers of the cases, which the headings begin with."""
-    return sorted(runs, key=lambda run: int("".join(c for c in run.lines[0].split(",")[0].split(" and")[0] if c.isdigit())))
+    return sorted(runs, key=lambda run: int("".join(c for c in run.lines[0].split(",")[0] if c.isdigit())))
 
 
 # ---- power cuts
+
+
+CUT_IMAGES = ["quarry_sent", "highest_506", "highest_507", "moved_sent", "moved_three"]
+CUT_IMAGES += ["first_copies_damaged", "second_copies_damaged", "wide"]
 
 
 def wiped_choices(granule):
@@ -214,13 +245,11 @@ def tried(image, setting, command):
 
 
 def power_cuts():
-    names = ["quarry", "highest_506", "highest_507", "moved", "moved_three"]
-    names += ["first_copies_damaged", "second_copies_damaged", "wide"]
     commands = []
     for slot in range(3):
         commands += [("enable", slot), ("disable", slot), ("rename", slot, NEW_NAME)]
     commands.append(("repair",))
-    for name in names:
+    for name in CUT_IMAGES:
         setting = WIDE if name == "wide" else LISTING
         yield f"{name}.img, each erase cut {len(wiped_choices(setting.granule))} times"
         for command in commands:
@@ -238,13 +267,13 @@ def write(crate, names, lines):
 def main():
     write(
         "quarry_cases",
-        ["quarry", "highest_506", "highest_507", "moved", "entries_127", "entries_128", "no_bytes"],
-        [line for run in in_order(cases()) for line in run.lines],
+        ["quarry", "quarry_sent", "highest_506", "highest_507", "moved"]
+        + ["entries_127", "entries_128", "no_bytes", "last_byte_sent"],
+        [line for run in in_order(cases()) + list(empty_slots()) for line in run.lines],
     )
     write(
         "power_cuts",
-        ["quarry", "highest_506", "highest_507", "moved", "moved_three"]
-        + ["first_copies_damaged", "second_copies_damaged", "wide"],
+        CUT_IMAGES,
         list(power_cuts()),
     )
 

@@ -1,6 +1,6 @@
-"""Document 01 in plain Python: an independent reference that makes test data and that programs are compared with.
+"""Documents 01 and 02 in plain Python: an independent reference that makes test data and that programs are compared with.
 
-Written from document 01 alone. The gate never runs it.
+Written from the documents alone. The gate never runs it.
 
     python3 tests/reference.py list < IMAGE       what the listing program must print
     python3 tests/reference.py quarry > IMAGE     the quarry image
@@ -310,6 +310,8 @@ def start(image, setting, command):
     starts = [e.start for e in slots(v.table)]
     order = boot_order(v.table, v.pointers)
     if command[0] == "enable":
+        if block(image, starts[slot]) == b"\xff" * BLOCK:
+            raise Refused(14)
         return enable(v, starts, order, slot)
     if command[0] == "disable":
         if slot not in order:

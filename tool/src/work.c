@@ -1,10 +1,14 @@
 /* A command at work: the flash before, the job, its steps one by one, the flash after. */
 #include "work.h"
 
+#include <inttypes.h>
 #include <stdlib.h>
 #include <string.h>
 
 #include "status.h"
+
+/* The refusal of a slot whose first 4,096 bytes are all 0xFF. */
+enum { EMPTY_SLOT = 14 };
 
 static int refuse(const struct work *work, uint8_t number) {
     return answer_refused(work->dump, work->options->json, number);
@@ -19,6 +23,17 @@ static int judge_base(const struct work *work) {
                         "blocks",
                         work->dump->path, work->flash->base, block_names[block], work->layout.block[block]);
     return DONE;
+}
+
+/* Below the base the flash is taken as erased, so that a slot there looks empty whether it is or not. */
+static int refuse_start(const struct work *work, uint8_t number) {
+    const struct slot *slots = work->before.slots;
+    uint32_t slot = number == EMPTY_SLOT ? slot_called(work->flash, work->options->words[0]) : UINT32_MAX;
+    if (slot >= work->before.slot_count || slots[slot].start >= work->flash->base) return refuse(work, number);
+    return fail(SETTING,
+                "%s begins at address 0x%zx, and slot %s before it, at 0x%" PRIx64
+                ": whether the slot is empty is not known. Read a dump that has it",
+                work->dump->path, work->flash->base, printed(&slots[slot].name), slots[slot].start);
 }
 
 static int keep_granules(struct work *work) {
@@ -69,8 +84,9 @@ static int carry_out(struct work *work) {
 int work_begin(struct work *work) {
     uint8_t refused = read_layout(work->flash, &work->layout);
     if (refused == 0) refused = read_flash(work->flash, &work->before);
-    if (refused == 0) refused = work->options->action->start(work->flash, work->options->words, work->job);
     if (refused != 0) return refuse(work, refused);
+    refused = work->options->action->start(work->flash, work->options->words, work->job);
+    if (refused != 0) return refuse_start(work, refused);
     int status = judge_base(work);
     if (status == DONE) status = keep_granules(work);
     return status == DONE ? carry_out(work) : status;

@@ -22,8 +22,8 @@ def commands():
 
 
 class BenchPage(Bench):
-    def dump(self, name, values):
-        """A dump of the vendor's flash from SPT0 on."""
+    def dump(self, name, values, empty=()):
+        """A dump of the vendor's flash from SPT0 on, with some slots empty."""
         with open(self.path(name), "wb") as file:
             file.truncate(images.VENDOR_LENGTH - BASE)
             for start, block in images.blocks(images.VENDOR, values):
@@ -31,7 +31,7 @@ class BenchPage(Bench):
                 file.write(block.ljust(0x8000, images.ERASED))
             for start in (0x1000000, 0x2000000, 0x3000000):
                 file.seek(start - BASE)
-                file.write(b"\1")
+                file.write(images.ERASED * images.BLOCK if start in empty else b"\1")
 
     def cut(self, name):
         """The plan that puts P3 first on box17, cut after 12 steps."""
@@ -58,6 +58,7 @@ class BenchPage(Bench):
         os.symlink(APPLY_STEPS, self.path("apply-steps"))
         self.dump("box17.img", (0x1000000, 0x2000000))
         self.dump("box18.img", (0x1000000,))
+        self.dump("box19.img", (0x1000000,), empty=(0x3000000,))
         self.dump("mtd0", (0x1000000,))
         self.cut("cut.img")
         pairs = list(commands())

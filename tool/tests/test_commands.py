@@ -126,6 +126,13 @@ class Refusals(Bench):
         for name in ("", "sixteen bytes at", "SPT0"):
             self.refused(9, self.image, *GRANULE, "--rename", "P3", name)
         self.refused(10, self.image, *GRANULE, "--rename", "P3", "P1")
+        flash = images.quarry()
+        flash[0x9000] = flash[0xA000] = 0xFF
+        empty = self.put("empty", flash)
+        self.refused(14, empty, *GRANULE, "--enable", "P2")
+        self.refused(14, empty, *GRANULE, "--enable", "P3", "--in-place")
+        self.assertEqual(self.get("empty"), flash)
+        self.done(empty, *GRANULE, "--enable", "P1")
         self.assertEqual(self.get("quarry"), images.quarry())
 
     def test_json_says_it_too(self):

@@ -224,6 +224,15 @@ class Finder(Bench):
         self.assertNotIn("another copy", self.done(image, "-c", "--granule", "65536").err)
         self.assertNotIn("another copy", self.done(self.put("quarry", images.quarry()), "-c").err)
 
+    def test_slot_before_the_base_is_not_enabled(self):
+        entries = [("FACTORY_IMAGE", 0x2000, 0x1000, 1) if name == "FACTORY_IMAGE" else
+                   ("P1", 0x3000, 0x1000, 0) if name == "P1" else (name, *rest) for name, *rest in images.QUARRY]
+        flash = images.image(entries, [0x9000], 65536)
+        part = self.put("part", flash[0x4000:])
+        self.failed(122, "slot P1 before it, at 0x3000", part, "--granule", "4096", "--enable", "P1")
+        self.done(part, "--granule", "4096", "--enable", "P3")
+        self.done(self.put("whole", flash), "--granule", "4096", "--enable", "P1")
+
     def test_tables_before_the_base_are_not_written(self):
         entries = [(name, {"CPB0": 0x1000, "BOOT_INFO": 0}.get(name, start), 0x1000, flags) for name, start, _, flags in images.QUARRY]
         flash = images.image(entries, [0x8000], 65536)

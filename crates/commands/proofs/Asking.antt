@@ -2,13 +2,13 @@
 use mathlib.Core.Path.{_≡_, refl, sym, ap, _∙_}
 use mathlib.Core.Bool.{Bool, true, false}
 use mathlib.Core.List.{List}
-use Prim.Native.Nat.{ℕ, _≤_, _<_}
+use Prim.Native.Nat.{ℕ, _+_, _≤_, _<_}
 use native.Mathlib.Omega.{arith}
 use lib.Dec.{ltb}
 use borrow.Author.Tests.{le-ltb, lt-ltb, ltb-true}
-use lib.ListN.{length, drop}
+use lib.ListN.{length, getD, drop}
 use Rattle.rules.specs.Lists.{member}
-use Rattle.rules.specs.Bytes.{block}
+use Rattle.rules.specs.Bytes.{block, block-size}
 use Rattle.rules.specs.Answers.{Answer, refused, given, numbered, unless, _>>=_}
 use Rattle.rules.specs.declared.Setting.{Setting}
 use Rattle.rules.specs.declared.Refusal.{Refusal}
@@ -16,7 +16,7 @@ use Rattle.rules.specs.Table.{entry-count, entries, rows, slots, starts}
 use Rattle.rules.specs.Pointers.{places}
 use Rattle.rules.specs.Copies.{view, agree-by, order-by, boot-order}
 use Rattle.rules.specs.Readers.{slot-row, slot-there}
-use Rattle.rules.specs.Commands.{Command, enable, disable, rename, repair, disable-steps, rename-steps, repair-steps, giving, name-allowed, name-free, job}
+use Rattle.rules.specs.Commands.{Command, enable, disable, rename, repair, slot-empty, enable-steps, disable-steps, rename-steps, repair-steps, giving, name-allowed, name-free, job}
 use Rattle.rules.specs.declared.Step.{Step}
 use Rattle.rules.specs.declared.View.{View}
 use Rattle.rules.proofs.Lists.Tests.{unless-given}
@@ -31,6 +31,7 @@ use Rattle.commands.specs.declared.Begun.{Begun}
 use Rattle.commands.specs.declared.Outcome.{Outcome}
 use Rattle.commands.specs.declared.Outcome.the-variants.{Started, Refused}
 use Rattle.commands.proofs.EqualCopies.{pairs-agree-if-equal}
+use Rattle.commands.proofs.Locating.{slot-inside}
 
 -- ---- what a start returns
 
@@ -120,18 +121,31 @@ module _ (s : Setting) (img : List ℕ) (v : View) (h : view s img ≡ given v) 
 
       -- ---- the commands after these, by the table t and the pointer block p read
 
-      module _ (t p : List ℕ) (et : t ≡ block img (v .table)) (ep : p ≡ block img (v .pointers)) where
-        pub slot-counted : k < length (slots (entries t))
-        unfolding slot-there
-        slot-counted = rw et (ltb-true k (length (slots (entries (block img (v .table))))) slot-is-there)
+      pub slot-counted : (t : List ℕ) → t ≡ block img (v .table) → k < length (slots (entries t))
+      unfolding slot-there
+      slot-counted t et = rw et (ltb-true k (length (slots (entries (block img (v .table))))) slot-is-there)
 
-        pub enable-started : (r : Begun) (j : Job)
+      module _ (t : List ℕ) (et : t ≡ block img (v .table)) (a : ℕ) (ea : a ≡ getD (starts t) k 0) where
+        pub begins-inside : a + block-size ≤ length img
+        begins-inside = rw (ea, et) (slot-inside s img v h k (slot-counted (block img (v .table)) refl))
+
+        pub enable-refused-14 : slot-empty img a ≡ true → job s img v (enable k) ≡ refused (numbered 14)
+        unfolding job unless
+        enable-refused-14 e = passed-by _ ∙ rw (← et, ← ea, e)
+
+        pub enable-started : slot-empty img a ≡ false
+            → (p : List ℕ) (r : Begun) (j : Job)
+            → p ≡ block img (v .pointers)
             → r ≡ started j
             → j ≡ enable-job (length img) (s .granule) (v .cpb0) (v .cpb1) (starts t) p k
             → r ≡ returned (job-by s img v (enable k))
-        unfolding job job-for
-        enable-started r j er ej = returns-started s img v (enable k) r j _ er (ej ∙ rw (et, ep)) (passed-by _)
+        unfolding job job-for unless
+        enable-started f p r j ep er ej =
+            returns-started s img v (enable k) r j
+            (enable-steps (v .cpb0) (v .cpb1) (starts (block img (v .table))) (block img (v .pointers)) k) er
+            (ej ∙ rw (et, ep)) (passed-by _ ∙ rw (← et, ← ea, f))
 
+      module _ (t p : List ℕ) (et : t ≡ block img (v .table)) (ep : p ≡ block img (v .pointers)) where
         module _ (ks : List ℕ) (ek : ks ≡ giving (starts t) k 0 (places p)) where
           ordered : member k (boot-order img v) ≡ ltb 0 (length ks)
           unfolding boot-order order-by

@@ -20,6 +20,7 @@ use Rattle.rules.specs.Commands.{Command, enable, disable, rename, repair, reor
 use Rattle.rules.specs.declared.Step.{Step}
 use Rattle.rules.specs.declared.View.{View}
 use Rattle.rules.proofs.Lists.Tests.{by-cases, given-inj, unless-given}
+use Rattle.rules.proofs.EmptySlots.{not-empty-if-given}
 use Rattle.rules.proofs.Pointers.PointerHeader.{layout}
 use Rattle.blocks.specs.Made.{Lists}
 use Rattle.blocks.proofs.JobSteps.{rewrites-lists, no-steps-lists, pair-lists, places-lists}
@@ -88,8 +89,9 @@ module _ (s : Setting) (img : List ℕ) (v : View) (h : view s img ≡ given v) 
   job-lists : (c : Command) (ss : List Step) → job s img v c ≡ given ss → ForImage c ss
   unfolding job job-for
   job-lists (enable k) ss e =
-      subst (ForImage (enable k)) (given-inj _ ss (after-slot k _ ss e))
-      (enable-lists _ _ _ _ _ _ k (located s img v h .stand))
+      let start = getD (starts (block img (v .table))) k 0 in
+      let (_, e14) = not-empty-if-given img start _ ss (after-slot k _ ss e) in
+      subst (ForImage (enable k)) (given-inj _ ss e14) (enable-lists _ _ _ _ _ _ k (located s img v h .stand))
   job-lists (disable k) ss e =
       let (_, e8) = unless-given 8 (member k (boot-order img v)) _ ss (after-slot k _ ss e) in
       subst (ForImage (disable k)) (given-inj _ ss e8) (disable-lists _ _ _ _ _ _ k (located s img v h .stand))

@@ -10,13 +10,14 @@ use blocks::pointers;
 use blocks::tables;
 use jobs::Job;
 use places::Places;
+use rules::Refusal;
 use rules::Setting;
 use rules::SlotNo;
 use rules::View;
 use slots::Rows;
 ghost use mathlib.Core.Path.{_≡_};
 ghost use Prim.Native.Nat.{_<_};
-ghost use lib.ListN.{length};
+ghost use lib.ListN.{length, getD};
 ghost use Rattle.rules.specs.Answers.{given};
 ghost use Rattle.rules.specs.Table.{entries, slots, starts};
 ghost use Rattle.rules.specs.Copies.{view};
@@ -25,7 +26,7 @@ ghost use Rattle.blocks.specs.Inner.Walked.{Readable};
 ghost use Rattle.commands.specs.JobFor.{enable-job};
 ghost use Rattle.commands.specs.Begins.{returned, job-by};
 
-// Refusals 6 and 7, or the job of enable.
+// Refusals 6, 7 and 14, or the job of enable.
 pub fn enable_by(image: &[u8], setting: Setting, v: View, slot: SlotNo) -> Begun
     requires { ⌜ view setting (now image) ≡ given v ⌝ }
     ensures { λ r. ⌜
@@ -37,10 +38,14 @@ pub fn enable_by(image: &[u8], setting: Setting, v: View, slot: SlotNo) -> Begun
         Outcome::Refused(why) => refusals::refuse(why),
         Outcome::Started => {
             let table_at = v.table;
-            let pointers_at = v.pointers;
             let t = fields::block_at(image, table_at);
-            let p = fields::block_at(image, pointers_at);
             let rows = slots::rows_of(t);
+            let start = tables::slot_start(t, rows, slot);
+            if copies::is_erased(image, start as usize) {
+                return refusals::refuse(Refusal { number: 14 });
+            }
+            let pointers_at = v.pointers;
+            let p = fields::block_at(image, pointers_at);
             let places = places::places_of(p);
             let at0 = v.cpb0 as u32;
             let at1 = v.cpb1 as u32;
@@ -50,14 +55,26 @@ pub fn enable_by(image: &[u8], setting: Setting, v: View, slot: SlotNo) -> Begun
                 at0: at0,
                 at1: at1,
             };
-            refusals::begun(enable_job(t, rows, p, places, to, slot))
+            refusals::begun(enable_job(t, rows, p, places, to, slot, start))
         }
     }
 }
 
-// The job, by the table and the pointer block read: no steps, one place in both copies, or both copies rewritten.
-fn enable_job(t: &[u8], rows: Rows, p: &[u8], places: Places, to: Target, slot: SlotNo) -> Job
-    requires { ⌜ Readable (now t) rows (now p) places × (slot .0 < length (slots (entries (now t)))) ⌝ }
+// The job, by the table and the pointer block read and where the slot starts: no steps, one place in both copies, or both
+// copies rewritten.
+fn enable_job(
+    t: &[u8],
+    rows: Rows,
+    p: &[u8],
+    places: Places,
+    to: Target,
+    slot: SlotNo,
+    start: u64,
+) -> Job
+    requires { ⌜
+        (Readable (now t) rows (now p) places × (slot .0 < length (slots (entries (now t)))))
+        × (start ≡ getD (starts (now t)) (slot .0) 0)
+        ⌝ }
     ensures { λ r. ⌜
         r ≡ enable-job (to .len) (to .granule) (to .at0) (to .at1) (starts (now (t .entry))) (now (p .entry)) (slot .0)
         ⌝ }
@@ -65,7 +82,6 @@ fn enable_job(t: &[u8], rows: Rows, p: &[u8], places: Places, to: Target, slot: 
     if pointers::comes_first(t, rows, p, places, slot) {
         return made::no_steps(to.len, to.granule);
     }
-    let start = tables::slot_start(t, rows, slot);
     if places.free.0 < places.count {
         let one = pointers::one_place(places.free);
         return made::into_places(to, places.offset as u32, one, bytes::bytes_of(start));

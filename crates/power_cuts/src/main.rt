@@ -262,10 +262,10 @@ fn main() {
         spt0: 0x4000,
         spt1: 0x5000,
     };
-    try_file(b"quarry.img", setting);
+    try_file(b"quarry_sent.img", setting);
     try_file(b"highest_506.img", setting);
     try_file(b"highest_507.img", setting);
-    try_file(b"moved.img", setting);
+    try_file(b"moved_sent.img", setting);
     try_file(b"moved_three.img", setting);
     try_file(b"first_copies_damaged.img", setting);
     try_file(b"second_copies_damaged.img", setting);

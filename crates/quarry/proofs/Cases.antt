@@ -1,4 +1,4 @@
--- The quarry cases hold: `starred-hold` over the table that document 01 marks, `unstarred-hold` over the others.
+-- The quarry cases hold: `starred-hold` over the table of those that must be proved, `unstarred-hold` over the others.
 -- Each row is computed with `fast-steps`; then the tables are carried to `steps`, the same function. Assumes nothing.
 use mathlib.Core.Path.{_≡_, refl, subst}
 use mathlib.Core.Bool.{true, false}
@@ -10,7 +10,7 @@ use Rattle.rules.specs.Table.{table-stands}
 use Rattle.rules.specs.Steps.{steps}
 use Rattle.rules.specs.Commands.{name-allowed}
 use Rattle.quarry.specs.Quarry.{quarry-setting, longer-length, longer-table}
-use Rattle.quarry.specs.Cases.{Row, holds, starred, unstarred, case-1, case-2, case-3, case-4, case-5, case-6, case-7, case-7-full, case-8, case-8-inside, case-9, case-10}
+use Rattle.quarry.specs.Cases.{Row, holds, starred, unstarred, case-1, case-2, case-3, case-4, case-5, case-6, case-7, case-7-full, case-8, case-8-inside, case-9, case-10, case-empty, case-last-byte}
 use Rattle.rules.specs.declared.Step.{Step}
 use Rattle.quarry.proofs.Opened.{rules}
 use Rattle.rules.proofs.Steps.Programming.{fast-steps, fast-is-steps}
@@ -53,6 +53,14 @@ case-9-computed : holds fast-steps case-9 ≡ true
 unfolding rules case-9
 case-9-computed = refl
 
+case-empty-computed : holds fast-steps case-empty ≡ true
+unfolding rules case-empty
+case-empty-computed = refl
+
+case-last-byte-computed : holds fast-steps case-last-byte ≡ true
+unfolding rules case-last-byte
+case-last-byte-computed = refl
+
 case-8-computed : holds fast-steps case-8 ≡ true
 unfolding rules case-8
 case-8-computed = refl
@@ -80,6 +88,8 @@ starred-computed =
       case-7-computed,
       case-7-full-computed,
       case-9-computed,
+      case-empty-computed,
+      case-last-byte-computed,
     )
 
 unstarred-computed : all (holds fast-steps) unstarred ≡ true
@@ -91,7 +101,7 @@ unstarred-computed =
 by-steps : (rs : List Row) → all (holds fast-steps) rs ≡ true → all (holds steps) rs ≡ true
 by-steps rs = subst (λ (f : ℕ → List Step → List ℕ → List ℕ). all (holds f) rs ≡ true) fast-is-steps
 
--- document 01's starred cases
+-- document 01's starred cases, and document 02's of empty slots
 pub starred-hold : all (holds steps) starred ≡ true
 starred-hold = by-steps starred starred-computed
 

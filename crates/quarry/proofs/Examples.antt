@@ -15,7 +15,7 @@ use Rattle.rules.specs.Pointers.{pointers-stand, places, erased-value, judged, 
 use Rattle.rules.specs.Copies.{copy-read, pair-agrees, dump-stands, standing-dump}
 use Rattle.rules.specs.Readers.{order-in, row-after, slot-row, facts, name-in}
 use Rattle.rules.specs.Steps.{programmed, wiped, steps, programs, rewrite, rewrite-pair}
-use Rattle.rules.specs.Commands.{pointer-bytes, filled, pointers-of, free-place, is-first, into-place, append-steps, giving, into-places, half-cleared-names, padded-name, put-name, name-allowed, name-free, rename-steps, repair-pair, enable, disable, rename}
+use Rattle.rules.specs.Commands.{pointer-bytes, filled, pointers-of, free-place, is-first, slot-empty, into-place, append-steps, giving, into-places, half-cleared-names, padded-name, put-name, name-allowed, name-free, rename-steps, repair-pair, enable, disable, rename}
 use Rattle.rules.specs.Cuts.{Progress, run, may-run, runs, half-done, dropped}
 use Rattle.rules.specs.Book.{Reading, the-commands, was-refused, finished, cut, how-ended, renamed, booked}
 use Rattle.quarry.specs.Quarry.{quarry-setting, padded, entry-bytes, quarry-table, quarry-pointers}
@@ -185,11 +185,13 @@ enable-examples :
     × (free-place three-starts (0x8000 ∷ erased-value ∷ 0 ∷ erased-value ∷ erased-value ∷ []) ≡ 3)
     × (map (λ v. free-place three-starts (erased-value ∷ v ∷ [])) (erased-value ∷ 0x8000 ∷ []) ≡ 0 ∷ 2 ∷ [])
     × (map (λ k. is-first k (1 ∷ 0 ∷ [])) (1 ∷ 0 ∷ []) ≡ true ∷ false ∷ [])
+    × (map (λ n. slot-empty (0 ∷ (replicate n 0xFF ++ (0 ∷ []))) 1) (4095 ∷ 4096 ∷ []) ≡ false ∷ true ∷ [])
+    × (map (λ n. slot-empty (replicate 0x1000 n) 0) (0xFE ∷ 0xFF ∷ []) ≡ false ∷ true ∷ [])
     × (into-place 0x7000 0x20 (5 ∷ 6 ∷ []) 2 ≡ Program 0x7030 5 ∷ Program 0x7031 6 ∷ [])
     × (take 2 (append-steps 0x6000 0x7000 0x20 2 0x8000) ≡ Program 0x7030 0 ∷ Program 0x7031 0x80 ∷ [])
     × (take 2 (drop 8 (append-steps 0x6000 0x7000 0x20 2 0x8000)) ≡ Program 0x6030 0 ∷ Program 0x6031 0x80 ∷ [])
 unfolding rules table
-enable-examples = (refl, refl, refl, refl, refl, refl, refl, refl, refl)
+enable-examples = (refl, refl, refl, refl, refl, refl, refl, refl, refl, refl, refl)
 
 disable-examples :
     (giving three-starts 0 0 (0x8000 ∷ 0x9000 ∷ 0 ∷ 0x8000 ∷ erased-value ∷ []) ≡ 0 ∷ 3 ∷ [])

@@ -9,7 +9,7 @@ use Rattle.rules.specs.Copies.{view}
 use Rattle.rules.specs.Steps.{wiped}
 use Rattle.rules.specs.Commands.{enable, disable, rename, repair}
 use Rattle.rules.specs.Final.{put-at, put-block, put-places, final}
-use Rattle.quarry.specs.Quarry.{quarry-setting, quarry-with, quarry}
+use Rattle.quarry.specs.Quarry.{quarry-setting, quarry-with, sent-slots, quarry-sent}
 use Rattle.rules.specs.declared.View.{View}
 use Rattle.quarry.proofs.Opened.{rules}
 
@@ -32,22 +32,22 @@ quarry-view = record {
   pointers = 0x6000;
 }
 
-quarry-viewed : view quarry-setting quarry ≡ given quarry-view
+quarry-viewed : view quarry-setting quarry-sent ≡ given quarry-view
 unfolding rules
 quarry-viewed = refl
 
 -- case 2
-enable-2-leaves : final quarry-setting quarry quarry-view (enable 2) ≡ quarry-with (0x8000 ∷ 0x9000 ∷ 0xA000 ∷ [])
+enable-2-leaves : final quarry-setting quarry-sent quarry-view (enable 2) ≡ quarry-with sent-slots (0x8000 ∷ 0x9000 ∷ 0xA000 ∷ [])
 unfolding rules
 enable-2-leaves = refl
 
-disable-0-leaves : final quarry-setting quarry quarry-view (disable 0) ≡ quarry-with (0 ∷ 0x9000 ∷ [])
+disable-0-leaves : final quarry-setting quarry-sent quarry-view (disable 0) ≡ quarry-with sent-slots (0 ∷ 0x9000 ∷ [])
 unfolding rules
 disable-0-leaves = refl
 
 -- the name of slot 1, entry 7, in both tables
 abbrev renamed-to-A : List ℕ
-renamed-to-A = final quarry-setting quarry quarry-view (rename 1 (65 ∷ []))
+renamed-to-A = final quarry-setting quarry-sent quarry-view (rename 1 (65 ∷ []))
 
 rename-1-leaves :
     (take 16 (drop 0x4100 renamed-to-A) ≡ 65 ∷ replicate 15 0)
@@ -56,6 +56,6 @@ unfolding rules
 rename-1-leaves = (refl, refl)
 
 -- CPB1 erased, then repaired
-repair-leaves : final quarry-setting (wiped 0x7000 block-size quarry) quarry-view repair ≡ quarry
+repair-leaves : final quarry-setting (wiped 0x7000 block-size quarry-sent) quarry-view repair ≡ quarry-sent
 unfolding rules
 repair-leaves = refl

@@ -1,4 +1,4 @@
--- Demand 3 applied to one list on the quarry image: a refusal, a cut, a repair and a further command. `quarry-list` is the
+-- Demand 3 applied to one list on the quarry image: two refusals, a cut, a repair and a further command. `quarry-list` is the
 -- claim for it, `quarry-outcomes` shows by computation that the list has all three outcomes. Assumes nothing.
 use mathlib.Core.Path.{_≡_, refl, sym, ap, _∙_, subst}
 use mathlib.Core.Bool.{true}
@@ -19,7 +19,7 @@ use Rattle.rules.specs.Steps.{step, steps}
 use Rattle.rules.specs.Commands.{Command, enable, disable, repair, start}
 use Rattle.rules.specs.Cuts.{run, runs, half-done, dropped}
 use Rattle.rules.specs.Book.{the-commands, Item, Outcome, was-refused, finished, cut, how-ended, progress, left-by, flash-after, ended-by, outcome, all-proper, name-bytes, Demand3}
-use Rattle.quarry.specs.Quarry.{quarry-setting, quarry}
+use Rattle.quarry.specs.Quarry.{quarry-setting, quarry-p3}
 use Rattle.rules.specs.declared.Step.{Step}
 use Rattle.rules.proofs.Lists.Tests.{and-true}
 use Rattle.quarry.proofs.Opened.{rules}
@@ -32,15 +32,20 @@ use Rattle.rules.proofs.Claim.Theorem.{demand-3}
 abbrev item : Command → List ℕ → Item the-commands
 item c budgets = record { command = c; budgets = budgets; wiped = 0 }
 
--- disable 2 is refused; enable 2 is cut after 15 steps; repair finishes in two runs, and a third is refused 11; enable 2
--- finishes under budgets 0 and 16
+-- enable 1 is refused 14, though slot 1 is first already; disable 2 is refused 8; enable 2 is cut after 15 steps; repair
+-- finishes in two runs, and a third is refused 11; enable 2 finishes under budgets 0 and 16
 abbrev pub a-list : List (Item the-commands)
 a-list =
-    item (disable 2) []
+    item (enable 1) []
+    ∷ item (disable 2) []
     ∷ item (enable 2) (7 ∷ 8 ∷ [])
     ∷ item repair (4000 ∷ 97 ∷ 5 ∷ [])
     ∷ item (enable 2) (0 ∷ 16 ∷ [])
     ∷ []
+
+-- the flash that it starts from: P3 alone is not empty
+abbrev pub a-flash : List ℕ
+a-flash = quarry-p3 (0 ∷ [])
 
 -- ---- the claim for it
 
@@ -50,19 +55,19 @@ bytes-by-test [] h i = omega arith
 bytes-by-test (b ∷ bs) h zero = ltb-true b 256 (and-true (ltb b 256) (all (λ c. ltb c 256) bs) h .0)
 bytes-by-test (b ∷ bs) h (suc i) = bytes-by-test bs (and-true (ltb b 256) (all (λ c. ltb c 256) bs) h .1) i
 
-quarry-bytes : all (λ b. ltb b 256) quarry ≡ true
+quarry-bytes : all (λ b. ltb b 256) a-flash ≡ true
 unfolding rules
 quarry-bytes = refl
 
-quarry-agrees : pairs-agree quarry-setting quarry ≡ true
+quarry-agrees : pairs-agree quarry-setting a-flash ≡ true
 unfolding rules
 quarry-agrees = refl
 
-pub quarry-list : Demand3 quarry-setting quarry a-list
-quarry-list = demand-3 quarry-setting quarry (bytes-by-test quarry quarry-bytes) quarry-agrees a-list no-names
+pub quarry-list : Demand3 quarry-setting a-flash a-list
+quarry-list = demand-3 quarry-setting a-flash (bytes-by-test a-flash quarry-bytes) quarry-agrees a-list no-names
   where
     no-names : all-proper a-list
-    no-names = unfold all-proper name-bytes in (tt, (tt, (tt, (tt, tt))))
+    no-names = unfold all-proper name-bytes in (tt, (tt, (tt, (tt, (tt, tt)))))
 
 -- ---- its outcomes: runs under several budgets are one run under their sum
 
@@ -124,12 +129,12 @@ module _ (s : Setting) where
       rw (left-same i img (start s img (i .command)), ended-same i img (start s img (i .command)))
       (ap (λ (l : List Outcome). ended-by (s .granule) i img (start s img (i .command)) ∷ l) (outcomes-same is (flash-after s img i)))
 
-quick-outcomes : outcomes-at-once fast-steps quarry-setting quarry a-list ≡ was-refused ∷ cut ∷ finished ∷ finished ∷ []
+quick-outcomes : outcomes-at-once fast-steps quarry-setting a-flash a-list ≡ was-refused ∷ was-refused ∷ cut ∷ finished ∷ finished ∷ []
 unfolding rules
 quick-outcomes = refl
 
-pub quarry-outcomes : outcomes quarry-setting quarry a-list ≡ was-refused ∷ cut ∷ finished ∷ finished ∷ []
+pub quarry-outcomes : outcomes quarry-setting a-flash a-list ≡ was-refused ∷ was-refused ∷ cut ∷ finished ∷ finished ∷ []
 quarry-outcomes =
-    sym (outcomes-same quarry-setting a-list quarry)
-    ∙ subst (λ (f : ℕ → List Step → List ℕ → List ℕ). outcomes-at-once f quarry-setting quarry a-list ≡ was-refused ∷ cut ∷ finished ∷ finished ∷ [])
+    sym (outcomes-same quarry-setting a-list a-flash)
+    ∙ subst (λ (f : ℕ → List Step → List ℕ → List ℕ). outcomes-at-once f quarry-setting a-flash a-list ≡ was-refused ∷ was-refused ∷ cut ∷ finished ∷ finished ∷ [])
     fast-is-steps quick-outcomes

@@ -1,18 +1,18 @@
--- The cases of the quarry image as tables of rows: `starred` has those that document 01 marks, `unstarred` some others.
--- Assumes nothing.
+-- The cases of the quarry image as tables of rows: `starred` has those that document 01 marks and two of document 02, No. 2,
+-- `unstarred` some others. Assumes nothing.
 use mathlib.Core.Bool.{Bool, true, false, _&&_}
-use mathlib.Core.List.{List, [], _∷_}
+use mathlib.Core.List.{List, [], _∷_, _++_}
 use Prim.Native.Nat.{ℕ, _+_, _*_, _-_}
 use lib.Dec.{eqb}
-use lib.ListN.{take, drop, getD, length}
+use lib.ListN.{take, drop, getD, length, replicate}
 use Rattle.rules.specs.Lists.{same, all}
-use Rattle.rules.specs.Bytes.{block}
+use Rattle.rules.specs.Bytes.{block, erased-byte}
 use Rattle.rules.specs.Answers.{Answer, refused, given}
 use Rattle.rules.specs.Pointers.{places}
 use Rattle.rules.specs.Readers.{order-list}
 use Rattle.rules.specs.Commands.{Command, enable, disable, repair, start}
 use Rattle.rules.specs.Cuts.{half-done}
-use Rattle.quarry.specs.Quarry.{quarry-setting, quarry, quarry-used-to, quarry-moved}
+use Rattle.quarry.specs.Quarry.{quarry-setting, quarry, quarry-sent, quarry-p3, quarry-used-to, quarry-moved}
 use Rattle.rules.specs.declared.Step.{Step}
 use Rattle.rules.specs.declared.Step.the-variants.{Program, Erase}
 
@@ -120,18 +120,18 @@ case-1 = record { flash = quarry; script = order-is (1 ∷ 0 ∷ []) ∷ [] }
 -- 2: "Enable 2: place 2, 16 steps; order 2, 1, 0"
 unfoldable pub case-2 : Row
 case-2 = record {
-  flash = quarry;
+  flash = quarry-sent;
   script = command (enable 2) (place 2 ∷ step-count 16 ∷ []) to-the-end ∷ order-is (2 ∷ 1 ∷ 0 ∷ []) ∷ [];
 }
 
 -- 3: "Enable 1: 0 steps"
 unfoldable pub case-3 : Row
-case-3 = record { flash = quarry; script = command (enable 1) (step-count 0 ∷ []) not-run ∷ [] }
+case-3 = record { flash = quarry-sent; script = command (enable 1) (step-count 0 ∷ []) not-run ∷ [] }
 
 -- 4: "Enable 0: place 2; order 0, 1; then disable 0: 32 steps, order 1"
 unfoldable pub case-4 : Row
 case-4 = record {
-  flash = quarry;
+  flash = quarry-sent;
   script =
       command (enable 0) (place 2 ∷ []) to-the-end
       ∷ order-is (0 ∷ 1 ∷ [])
@@ -155,7 +155,7 @@ case-5 = record {
 -- enable 2 takes place 3."
 unfoldable pub case-6 : Row
 case-6 = record {
-  flash = quarry;
+  flash = quarry-sent;
   script =
       command (enable 2) (step-count 16 ∷ []) (cut-after 15)
       ∷ place-holds quarry-cpb0 2 0xFF0000000000A000
@@ -186,8 +186,38 @@ case-9 = record {
       ∷ [];
 }
 
+-- document 02, No. 2: an empty slot is refused 14, first already or not; a slot that is not there is refused 7
+unfoldable pub case-empty : Row
+case-empty = record {
+  flash = quarry;
+  script =
+      command (enable 1) (refusal 14 ∷ []) not-run
+      ∷ command (enable 2) (refusal 14 ∷ []) not-run
+      ∷ command (enable 3) (refusal 7 ∷ []) not-run
+      ∷ [];
+}
+
+-- of P3 only byte 4,095 is not 0xFF
+unfoldable pub case-last-byte : Row
+case-last-byte = record {
+  flash = quarry-p3 (replicate 4095 erased-byte ++ (0 ∷ []));
+  script = command (enable 2) (place 2 ∷ step-count 16 ∷ []) to-the-end ∷ order-is (2 ∷ 1 ∷ 0 ∷ []) ∷ [];
+}
+
 unfoldable pub starred : List Row
-starred = case-1 ∷ case-2 ∷ case-3 ∷ case-4 ∷ case-5 ∷ case-6 ∷ case-7 ∷ case-7-full ∷ case-9 ∷ []
+starred =
+    case-1
+    ∷ case-2
+    ∷ case-3
+    ∷ case-4
+    ∷ case-5
+    ∷ case-6
+    ∷ case-7
+    ∷ case-7-full
+    ∷ case-9
+    ∷ case-empty
+    ∷ case-last-byte
+    ∷ []
 
 -- ---- cases 8 and 10, as far as they are about an image of this size
 

@@ -1,4 +1,4 @@
--- "The quarry image" and its variants, byte for byte. Assumes nothing.
+-- "The quarry image" and its variants, byte for byte; the slots as document 02, No. 2, has them. Assumes nothing.
 use mathlib.Core.List.{List, [], _∷_, _++_}
 use Prim.Native.Nat.{ℕ, zero, suc, _+_, _*_, _-_}
 use lib.ListN.{take, drop, length, replicate}
@@ -42,24 +42,41 @@ quarry-pointers vs =
     (bytes-of 4 0x57789609 ++ (bytes-of 4 0x18 ++ (bytes-of 4 block-size ++ (bytes-of 4 0
     ++ (bytes-of 4 0x20 ++ (bytes-of 4 508 ++ (bytes-of 8 0 ++ pointer-bytes vs)))))))
 
--- an image of a length, from a table and a pointer block: both copies are equal, the rest is 0xFF
-unfoldable pub image : ℕ → List ℕ → List ℕ → List ℕ
-image len t p = replicate 0x4000 erased-byte ++ (t ++ (t ++ (p ++ (p ++ replicate (len - 0x8000) erased-byte))))
+-- an image of a length, from a table, a pointer block and the bytes from 0x8000 on: both copies are equal, the rest is
+-- 0xFF
+unfoldable pub image : ℕ → List ℕ → List ℕ → List ℕ → List ℕ
+image len t p bs =
+    replicate 0x4000 erased-byte ++ (t ++ (t ++ (p ++ (p ++ padded (len - 0x8000) erased-byte bs))))
 
--- the quarry image with these pointers from place 0 up
-unfoldable pub quarry-with : List ℕ → List ℕ
-quarry-with vs = image 65536 (quarry-table 0x8000 0x9000) (quarry-pointers vs)
+-- the quarry image with these bytes in its slots, P1 first, and these pointers from place 0 up
+unfoldable pub quarry-with : List ℕ → List ℕ → List ℕ
+quarry-with slots vs = image 65536 (quarry-table 0x8000 0x9000) (quarry-pointers vs) slots
 
+-- the slots are empty
 unfoldable pub quarry : List ℕ
-quarry = quarry-with (0x8000 ∷ 0x9000 ∷ [])
+quarry = quarry-with [] (0x8000 ∷ 0x9000 ∷ [])
+
+-- "slots with a first byte of 0"
+unfoldable pub sent-slot : List ℕ
+sent-slot = 0 ∷ replicate 4095 erased-byte
+
+unfoldable pub sent-slots : List ℕ
+sent-slots = sent-slot ++ (sent-slot ++ sent-slot)
+
+unfoldable pub quarry-sent : List ℕ
+quarry-sent = quarry-with sent-slots (0x8000 ∷ 0x9000 ∷ [])
+
+-- P1 and P2 are empty, and P3 begins with these bytes
+unfoldable pub quarry-p3 : List ℕ → List ℕ
+quarry-p3 bs = quarry-with (replicate 0x2000 erased-byte ++ bs) (0x8000 ∷ 0x9000 ∷ [])
 
 -- case 7: the start of P2 also at place k, which is then the highest used; the places between are erased
 unfoldable pub quarry-used-to : ℕ → List ℕ
-quarry-used-to k = quarry-with (0x8000 ∷ 0x9000 ∷ (replicate (k - 2) erased-value ++ (0x9000 ∷ [])))
+quarry-used-to k = quarry-with sent-slots (0x8000 ∷ 0x9000 ∷ (replicate (k - 2) erased-value ++ (0x9000 ∷ [])))
 
 -- case 9: P1 moved to 0x11000 and P2 to 0x10000, places 0 and 1 holding these
 unfoldable pub quarry-moved : List ℕ
-quarry-moved = image 73728 (quarry-table 0x11000 0x10000) (quarry-pointers (0x11000 ∷ 0x10000 ∷ []))
+quarry-moved = image 73728 (quarry-table 0x11000 0x10000) (quarry-pointers (0x11000 ∷ 0x10000 ∷ [])) []
 
 -- n slots of 0x1000 one after the other, named Q and a number
 unfoldable pub more-entries : ℕ → ℕ → List ℕ

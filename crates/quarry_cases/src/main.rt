@@ -1,4 +1,4 @@
-// Runs the cases of document 01 on the images under data/ and prints what happens.
+// Runs the cases of document 01, and of document 02, No. 2, on the images under data/ and prints what happens.
 use commands::Command;
 use jobs::Next;
 use libc::STDOUT_FILENO;
@@ -82,11 +82,6 @@ fn print_place(image: &[u8], place: PlaceNo) {
 
 // ---- the cases
 
-fn enable_first(image: &mut [u8]) {
-    print_order(image);
-    finish(image, Command::Enable(SlotNo(1)));
-}
-
 fn enable_third(image: &mut [u8], place: PlaceNo) {
     finish(image, Command::Enable(SlotNo(2)));
     print_place(image, place);
@@ -105,6 +100,12 @@ fn refused_slots(image: &mut [u8]) {
     finish(image, Command::Disable(SlotNo(2)));
     finish(image, Command::Enable(SlotNo(3)));
     finish(image, Command::Disable(SlotNo(3)));
+}
+
+fn empty_slots(image: &mut [u8]) {
+    finish(image, Command::Enable(SlotNo(1)));
+    finish(image, Command::Enable(SlotNo(2)));
+    print_order(image);
 }
 
 fn cut_then_repaired(image: &mut [u8]) {
@@ -129,10 +130,11 @@ fn names(image: &mut [u8]) {
 // ---- which case on which image
 
 enum Case {
-    EnableFirst,
+    Enable(SlotNo),
     EnableThird(PlaceNo),
     EnableThenDisable,
     RefusedSlots,
+    EmptySlots,
     CutThenRepaired,
     RewriteCut(usize),
     Disable(SlotNo),
@@ -142,10 +144,11 @@ enum Case {
 
 fn run_case(case: Case, image: &mut [u8]) {
     match case {
-        Case::EnableFirst => enable_first(image),
+        Case::Enable(slot) => finish(image, Command::Enable(slot)),
         Case::EnableThird(place) => enable_third(image, place),
         Case::EnableThenDisable => enable_then_disable(image),
         Case::RefusedSlots => refused_slots(image),
+        Case::EmptySlots => empty_slots(image),
         Case::CutThenRepaired => cut_then_repaired(image),
         Case::RewriteCut(k) => rewrite_cut(image, k),
         Case::Disable(slot) => finish(image, Command::Disable(slot)),
@@ -164,11 +167,16 @@ fn on_image(title: &[u8], path: &[u8], case: Case) {
 }
 
 fn main() {
-    on_image(b"cases 1 and 3\n", b"quarry.img", Case::EnableFirst);
-    on_image(b"case 2\n", b"quarry.img", Case::EnableThird(PlaceNo(2)));
-    on_image(b"case 4\n", b"quarry.img", Case::EnableThenDisable);
+    on_image(b"case 1\n", b"quarry.img", Case::OrderOnly);
+    on_image(
+        b"case 2\n",
+        b"quarry_sent.img",
+        Case::EnableThird(PlaceNo(2)),
+    );
+    on_image(b"case 3\n", b"quarry_sent.img", Case::Enable(SlotNo(1)));
+    on_image(b"case 4\n", b"quarry_sent.img", Case::EnableThenDisable);
     on_image(b"case 5\n", b"quarry.img", Case::RefusedSlots);
-    on_image(b"case 6\n", b"quarry.img", Case::CutThenRepaired);
+    on_image(b"case 6\n", b"quarry_sent.img", Case::CutThenRepaired);
     on_image(
         b"case 7, highest used place 506\n",
         b"highest_506.img",
@@ -203,4 +211,10 @@ fn main() {
         Case::OrderOnly,
     );
     on_image(b"case 10, 0 bytes\n", b"no_bytes.img", Case::OrderOnly);
+    on_image(b"empty slots\n", b"quarry.img", Case::EmptySlots);
+    on_image(
+        b"a slot of which only byte 4,095 was sent\n",
+        b"last_byte_sent.img",
+        Case::EnableThird(PlaceNo(2)),
+    );
 }

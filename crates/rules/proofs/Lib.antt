@@ -1,3 +1,4 @@
+pub mod EmptySlots
 pub mod AsListed
 pub mod AtEveryCut
 pub mod Claim

@@ -1,4 +1,4 @@
--- The listed steps of enable, disable, rename and repair, and refusals 6 to 10. Assumes nothing.
+-- The listed steps of enable, disable, rename and repair, and refusals 6 to 10 and 14. Assumes nothing.
 use mathlib.Core.Bool.{Bool, true, false, not, cond, _&&_, _||_}
 use mathlib.Core.List.{List, [], _∷_, _++_, map, reverse}
 use Prim.Native.Nat.{ℕ, zero, suc, _+_, _*_, _-_, _/_}
@@ -67,6 +67,10 @@ into-place c offset bs k = programs (c + (offset + 8 * k)) bs
 unfoldable pub append-steps : ℕ → ℕ → ℕ → ℕ → ℕ → List Step
 append-steps c0 c1 offset k start =
     into-place c1 offset (bytes-of 8 start) k ++ into-place c0 offset (bytes-of 8 start) k
+
+-- refusal 14: a slot "whose first 4,096 bytes are all 0xFF", by where it starts
+unfoldable pub slot-empty : List ℕ → ℕ → Bool
+slot-empty img start = all (λ b. eqb b erased-byte) (block img start)
 
 -- "Enable s", by where the pointer blocks are, the slots' starts and the pointer block read
 unfoldable pub enable-steps : ℕ → ℕ → List ℕ → List ℕ → ℕ → List Step
@@ -160,7 +164,8 @@ unfoldable pub job : Setting → List ℕ → View → Command → Answer (List 
 job s img v (enable k) =
     unless 6 (agree-by s img v)
     (unless 7 (slot-there (entries (block img (v .table))) k)
-    (given (enable-steps (v .cpb0) (v .cpb1) (starts (block img (v .table))) (block img (v .pointers)) k)))
+    (unless 14 (not (slot-empty img (getD (starts (block img (v .table))) k 0)))
+    (given (enable-steps (v .cpb0) (v .cpb1) (starts (block img (v .table))) (block img (v .pointers)) k))))
 job s img v (disable k) =
     unless 6 (agree-by s img v)
     (unless 7 (slot-there (entries (block img (v .table))) k)

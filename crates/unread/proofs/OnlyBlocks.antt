@@ -1,28 +1,31 @@
--- Nothing is read outside the four blocks, in plain words.
+-- Nothing is read outside the four blocks but the first 4,096 bytes of a slot that is enabled, in plain words.
 --
 -- Take two images of the same length whose tables and pointer blocks hold the same 4,096 bytes each, and which differ
 -- anywhere else in any way. Then every reader answers the same on both (the view, the table read, the boot order, the
 -- number of slots, what is known of a slot, its name, the book's reading), the pairs agree on both or on neither, and
--- every command is refused with the same number or starts with the same listed steps.
--- So a dump that lacks what lies before the tables may be laid at its address with any bytes below. Assumes nothing.
+-- every command but enable is refused with the same number or starts with the same listed steps; so is enable, where the
+-- first 4,096 bytes of the slot that it is told are the same too.
+-- So a dump that lacks what lies before the tables may be laid at its address with any bytes below, as long as no slot down
+-- there is enabled. Assumes nothing.
 use mathlib.Core.Path.{_≡_, refl, subst, _∙_}
+use mathlib.Core.Bool.{Bool, true, false, not}
 use mathlib.Core.Logic.{inl, inr}
 use mathlib.Core.List.{List}
 use Prim.Native.Nat.{ℕ}
-use lib.ListN.{length}
+use lib.ListN.{length, getD}
 use Rattle.rules.specs.Bytes.{block}
-use Rattle.rules.specs.Answers.{Answer, refused, given, _>>=_}
+use Rattle.rules.specs.Answers.{Answer, refused, given, unless, _>>=_}
 use Rattle.rules.specs.declared.Setting.{Setting}
-use Rattle.rules.specs.Table.{table-stands, cpb0-of, cpb1-of}
+use Rattle.rules.specs.Table.{entries, table-stands, starts, cpb0-of, cpb1-of}
 use Rattle.rules.specs.Pointers.{pointers-stand}
 use Rattle.rules.specs.Copies.{table-read, pointers-read, view-through, view, boot-order, pair-agrees, tables-agree, pointers-agree, agree-by, agreed, pairs-agree}
-use Rattle.rules.specs.Readers.{order-list, table-of, table-part, slot-count, slot-facts, slot-name}
-use Rattle.rules.specs.Commands.{Command, enable, disable, rename, repair, repair-pair, repair-steps, job, start}
+use Rattle.rules.specs.Readers.{slot-there, order-list, table-of, table-part, slot-count, slot-facts, slot-name}
+use Rattle.rules.specs.Commands.{Command, enable, disable, rename, repair, repair-pair, repair-steps, slot-empty, enable-steps, job, start}
 use Rattle.rules.specs.Book.{read-by, reading}
 use Rattle.rules.specs.declared.View.{View}
 use Rattle.rules.proofs.Lists.Tests.{given-inj, bind-given, unless-given}
 use Rattle.rules.proofs.Copies.CopyRead.{WhichAddress, which-address, copy-read-same}
-use Rattle.unread.specs.SameBlocks.{SameBlocks}
+use Rattle.unread.specs.SameBlocks.{SameBlocks, SameSlot}
 
 -- what is asked further need agree only on what is given
 bind-same : {A B : Type 0} (a : Answer A) (f g : A → Answer B)
@@ -72,6 +75,7 @@ module _ (s : Setting) (img img′ : List ℕ) (same : SameBlocks s img img′) 
   -- ---- the blocks that a view names
 
   pub record BlocksSame (v : View) : Type 0 where
+    pub reads : table-read s img ≡ given (v .table)
     pub table : block img (v .table) ≡ block img′ (v .table)
     pub pointers : block img (v .pointers) ≡ block img′ (v .pointers)
     pub cpb0 : block img (v .cpb0) ≡ block img′ (v .cpb0)
@@ -102,6 +106,7 @@ module _ (s : Setting) (img img′ : List ℕ) (same : SameBlocks s img img′) 
       let (at, read, e4) = bind-given _ _ v e3 in
       let (a, found, e5) = bind-given _ _ v e4 in
       subst BlocksSame (given-inj _ v e5) (record {
+        reads = read;
         table = table-same at read;
         pointers = pointers-same at a read found;
         cpb0 = same .cpb0 at read;
@@ -163,14 +168,32 @@ module _ (s : Setting) (img img′ : List ℕ) (same : SameBlocks s img img′) 
 
   -- ---- the commands
 
-  job-same : (c : Command) (v : View) → BlocksSame v → job s img v c ≡ job s img′ v c
-  unfolding job boot-order repair-steps repair-pair pair-agrees
-  job-same (enable k) v b = rw (agree-same v b, b .table, b .pointers)
-  job-same (disable k) v b = rw (agree-same v b, b .table, b .pointers)
-  job-same (rename k n) v b = rw (agree-same v b, b .table)
-  job-same repair v b =
+  -- a test that is made only where the one before it passed
+  unless-same : {A : Type 0} (n m : ℕ) (first test test′ : Bool) (a : Answer A)
+      → (first ≡ true → test ≡ test′)
+      → unless n first (unless m test a) ≡ unless n first (unless m test′ a)
+  unfolding unless
+  unless-same n m true test test′ a h = rw (h refl)
+  unless-same n m false test test′ a h = refl
+
+  job-same : (c : Command) → SameSlot s img img′ c → (v : View) → BlocksSame v → job s img v c ≡ job s img′ v c
+  unfolding SameSlot job boot-order repair-steps repair-pair pair-agrees slot-empty
+  job-same (enable k) slot v b =
+      let t = block img (v .table) in
+      let a = getD (starts t) k 0 in
+      rw (
+        agree-same v b,
+        unless-same 7 14 (slot-there (entries t) k) (not (slot-empty img a)) (not (slot-empty img′ a))
+            (given (enable-steps (v .cpb0) (v .cpb1) (starts t) (block img (v .pointers)) k))
+            (λ there. rw (slot (v .table) (b .reads) there)),
+        b .table,
+        b .pointers,
+      )
+  job-same (disable k) _ v b = rw (agree-same v b, b .table, b .pointers)
+  job-same (rename k n) _ v b = rw (agree-same v b, b .table)
+  job-same repair _ v b =
       rw (same .same-length, b .table, b .pointers, b .spt0, b .spt1, b .cpb0, b .cpb1)
 
-  pub start-same : (c : Command) → start s img c ≡ start s img′ c
+  pub start-same : (c : Command) → SameSlot s img img′ c → start s img c ≡ start s img′ c
   unfolding start
-  start-same c = of-view _ _ (job-same c)
+  start-same c slot = of-view _ _ (job-same c slot)

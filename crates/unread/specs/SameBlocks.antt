@@ -1,13 +1,17 @@
--- Two images that are equal in the four blocks, wherever else they differ. Assumes nothing.
+-- Two images that are equal in the four blocks, wherever else they differ, and what enable reads beside these. Assumes
+-- nothing.
 use mathlib.Core.Path.{_≡_}
+use mathlib.Core.Bool.{true}
 use mathlib.Core.List.{List}
 use Prim.Native.Nat.{ℕ}
-use lib.ListN.{length}
+use lib.ListN.{length, getD}
 use Rattle.rules.specs.Bytes.{block}
 use Rattle.rules.specs.Answers.{given}
 use Rattle.rules.specs.declared.Setting.{Setting}
-use Rattle.rules.specs.Table.{cpb0-of, cpb1-of}
+use Rattle.rules.specs.Table.{entries, starts, cpb0-of, cpb1-of}
 use Rattle.rules.specs.Copies.{table-read}
+use Rattle.rules.specs.Readers.{slot-there}
+use Rattle.rules.specs.Commands.{Command, enable, disable, rename, repair}
 
 -- as long as each other, and the same 4,096 bytes at the start of both tables and, by the table read, of both pointer
 -- blocks
@@ -21,3 +25,14 @@ pub record SameBlocks (s : Setting) (img img′ : List ℕ) : Type 0 where
   pub cpb1 : (at : ℕ)
       → table-read s img ≡ given at
       → block img (cpb1-of (block img at)) ≡ block img′ (cpb1-of (block img at))
+
+-- the same first 4,096 bytes of the slot that enable is told, where the table read has that slot; the other commands read
+-- nothing of a slot
+unfoldable pub SameSlot : Setting → List ℕ → List ℕ → Command → Type 0
+SameSlot s img img′ (enable k) = (at : ℕ)
+    → table-read s img ≡ given at
+    → slot-there (entries (block img at)) k ≡ true
+    → block img (getD (starts (block img at)) k 0) ≡ block img′ (getD (starts (block img at)) k 0)
+SameSlot s img img′ (disable k) = Unit {0}
+SameSlot s img img′ (rename k n) = Unit {0}
+SameSlot s img img′ repair = Unit {0}

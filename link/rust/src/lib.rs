@@ -321,7 +321,7 @@ impl Setting {
         answer(number, (judgement, value))
     }
 
-    /// A job by which a slot comes first in the boot order.
+    /// A job by which a slot comes first in the boot order: refused 14 if its first 4,096 bytes are all 0xFF.
     pub fn enable(&self, image: &[u8], slot: u32) -> Result<Job, Refused> {
         self.slot_job(raw::delunkpawi_enable, image, slot)
     }

@@ -7,8 +7,18 @@ const SETTING: Setting = Setting { granule: 4096, spt0: 0x4000, spt1: 0x5000 };
 /// Where the first kind stands in a job's bytes.
 const FIRST_KIND: usize = 44;
 
+/// The quarry image: its slots are empty.
 fn quarry() -> Vec<u8> {
     std::fs::read(concat!(env!("CARGO_MANIFEST_DIR"), "/../../crates/listing/stdin")).unwrap()
+}
+
+/// The same with a first byte of 0 in each slot.
+fn quarry_sent() -> Vec<u8> {
+    let mut image = quarry();
+    for start in [0x8000, 0x9000, 0xA000] {
+        image[start] = 0;
+    }
+    image
 }
 
 /// Runs a job to its end, and tells how many steps it did.
@@ -81,8 +91,18 @@ fn refuses() {
 }
 
 #[test]
-fn enables_and_disables() {
+fn refuses_an_empty_slot() {
     let mut image = quarry();
+    assert_eq!(SETTING.enable(&image, 1).err(), Some(Refused(14)));
+    assert_eq!(SETTING.enable(&image, 2).err(), Some(Refused(14)));
+    assert_eq!(SETTING.enable(&image, 3).err(), Some(Refused(7)));
+    image[0xAFFF] = 0;
+    assert_eq!(finish(SETTING.enable(&image, 2).unwrap(), &mut image), 16);
+}
+
+#[test]
+fn enables_and_disables() {
+    let mut image = quarry_sent();
     assert_eq!(finish(SETTING.enable(&image, 1).unwrap(), &mut image), 0);
     assert_eq!(finish(SETTING.enable(&image, 0).unwrap(), &mut image), 16);
     assert_eq!(SETTING.order(&image), Ok(vec![0, 1]));
@@ -99,7 +119,7 @@ fn renames() {
 
 #[test]
 fn repairs_after_a_cut() {
-    let mut image = quarry();
+    let mut image = quarry_sent();
     let mut job = SETTING.enable(&image, 2).unwrap();
     assert_eq!(job.next_step(), Ok(Some(Step::Program(0x7030, 0x00))));
     assert_eq!(job.run(&mut image, 15), Ok(15));
@@ -140,7 +160,7 @@ fn counts_steps_done_by_a_driver() {
 
 #[test]
 fn keeps_a_job_as_bytes() {
-    let mut image = quarry();
+    let mut image = quarry_sent();
     let mut job = SETTING.enable(&image, 2).unwrap();
     assert_eq!(job.run(&mut image, 7), Ok(7));
     let bytes = *job.bytes();

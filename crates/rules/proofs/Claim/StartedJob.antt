@@ -1,21 +1,22 @@
 -- What a job that is given says of its command: no refusal was due, and these are the listed steps. Assumes nothing.
 use mathlib.Core.Path.{_≡_}
-use mathlib.Core.Bool.{true}
+use mathlib.Core.Bool.{true, false}
 use mathlib.Core.List.{List}
 use Prim.Native.Nat.{ℕ, _<_}
 use borrow.Author.Tests.{ltb-true}
-use lib.ListN.{length, length-map}
+use lib.ListN.{length, length-map, getD}
 use Rattle.rules.specs.Lists.{member}
 use Rattle.rules.specs.Bytes.{block}
 use Rattle.rules.specs.Answers.{Answer, given, unless}
 use Rattle.rules.specs.Table.{Entry, entries, slots, slot-starts, starts}
 use Rattle.rules.specs.Copies.{agree-by, boot-order}
 use Rattle.rules.specs.Readers.{slot-row, slot-there}
-use Rattle.rules.specs.Commands.{Command, enable, disable, rename, repair, name-allowed, name-free, enable-steps, disable-steps, rename-steps, repair-steps, job}
+use Rattle.rules.specs.Commands.{Command, enable, disable, rename, repair, name-allowed, name-free, slot-empty, enable-steps, disable-steps, rename-steps, repair-steps, job}
 use Rattle.rules.specs.Book.{Reading}
 use Rattle.rules.specs.declared.Step.{Step}
 use Rattle.rules.specs.declared.View.{View}
 use Rattle.rules.proofs.Lists.Tests.{unless-given, given-inj}
+use Rattle.rules.proofs.EmptySlots.{not-empty-if-given}
 use Rattle.rules.proofs.Table.Renaming.{Allowed, allowed}
 use Rattle.rules.proofs.Claim.Invariant.{Beginning, Invariant, BothEqual, the-view, table-address, pointers-address, agree-both-equal}
 
@@ -35,11 +36,12 @@ module _ (beginning : Beginning) (img : List ℕ) (r : Reading) (h : Invariant b
   pub pointers-there : block img (v .pointers) ≡ h .pointers
   pointers-there = pointers-address beginning img r h .2
 
-  -- the pairs agree (not asked of repair), the slot is there, a new name may be given
+  -- the pairs agree (not asked of repair), the slot is there and, for enable, not empty, a new name may be given
   abbrev pub Started : Command → List Step → Type 0
   Started (enable k) ss =
       BothEqual beginning img
       × (k < length (starts (r .table)))
+      × (slot-empty img (getD (starts (r .table)) k 0) ≡ false)
       × (enable-steps c0 c1 (starts (r .table)) (h .pointers) k ≡ ss)
   Started (disable k) ss =
       BothEqual beginning img
@@ -66,8 +68,9 @@ module _ (beginning : Beginning) (img : List ℕ) (r : Reading) (h : Invariant b
   pub started-by : (c : Command) (ss : List Step) → job s img v c ≡ given ss → Started c ss
   unfolding job
   started-by (enable k) ss e =
-      let (equal, there, e8) = agree-and-there k _ ss (rw (table-there, pointers-there) at e) in
-      (equal, slots-by-starts (r .table) k there, given-inj _ ss e8)
+      let (equal, there, e14) = agree-and-there k _ ss (rw (table-there, pointers-there) at e) in
+      let (sent, e15) = not-empty-if-given img (getD (starts (r .table)) k 0) _ ss e14 in
+      (equal, slots-by-starts (r .table) k there, sent, given-inj _ ss e15)
   started-by (disable k) ss e =
       let (equal, there, e8) = agree-and-there k _ ss (rw (table-there, pointers-there) at e) in
       let (in-order, e9) = unless-given 8 (member k (boot-order img v)) _ ss e8 in

@@ -23,7 +23,8 @@ use Rattle.rules.specs.declared.Step.{Step}
 use Rattle.rules.specs.declared.View.{View}
 use Rattle.rules.proofs.Lists.Tests.{given-inj}
 use Rattle.rules.proofs.Steps.Cutting.{dropped-finished}
-use Rattle.rules.proofs.Claim.Invariant.{Beginning, Invariant, the-view, view-is, reading-is}
+use Rattle.rules.proofs.Steps.Frame.{Only}
+use Rattle.rules.proofs.Claim.Invariant.{Beginning, FourGranules, Invariant, the-view, view-is, reading-is}
 use Rattle.rules.proofs.Claim.Viewing.{viewed, beginning, holds-at-first}
 use Rattle.rules.proofs.Claim.JobRight.{JobRight}
 use Rattle.rules.proofs.Claim.EveryJob.{every-job-right}
@@ -69,10 +70,11 @@ module _ (s : Setting) (img : List ℕ) (v : View) (c : Command) (ss : List Step
   pub finished-agrees : pairs-agree s (final s img v c) ≡ true
   finished-agrees = rw (← finished-bytes) (right .agrees)
 
+  pub finished-kept : Only (FourGranules at-start) img (final s img v c)
+  finished-kept = rw (← finished-bytes) (right .at-end .kept)
+
   pub untouched-outside : Untouched s (block img (v .table)) img (final s img v c)
-  untouched-outside =
-      rw (← finished-bytes)
-      (untouched at-start (block img (v .table)) refl refl (steps (s .granule) ss img) (right .at-end .kept))
+  untouched-outside = untouched at-start (block img (v .table)) refl refl (final s img v c) finished-kept
 
 -- ---- with any budgets
 

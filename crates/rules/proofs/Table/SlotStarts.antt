@@ -17,10 +17,10 @@ use Rattle.rules.specs.Numbers.{longest, length-right}
 use Rattle.rules.specs.declared.Setting.{Setting}
 use Rattle.rules.specs.Table.{Entry, entries, name, boot-info, six-names, has-name, is-fixed-name, no-entry, named, range-aligned, range-inside, ranges-apart, six-named, boot-info-at-0, is-slot, slots, slot-starts, starts}
 use Rattle.rules.specs.Pointers.{erased-value, all-ones, one-more, slot-at}
-use Rattle.rules.proofs.Lists.Tests.{and-true, or-false}
-use Rattle.rules.proofs.Lists.Combinators.{all-at, all-of-kept, kept-pass, pairwise-of-kept, kept-no-more, first-of-all}
+use Rattle.rules.proofs.Lists.Tests.{and-true}
+use Rattle.rules.proofs.Lists.Combinators.{all-at, all-of-none, all-of-kept, kept-pass, pairwise-of-kept, kept-no-more, first-of-all}
 use Rattle.rules.proofs.Order.Ordering.{slot-named, other-values-name}
-use Rattle.rules.proofs.Table.Standing.{Standing, at-most-127, length-entries, not-empty, ends-inside, Disjoint, disjoint, different-starts, off-named, named-disjoint}
+use Rattle.rules.proofs.Table.Standing.{Standing, at-most-127, length-entries, not-empty, a-block-long, ends-inside, Disjoint, disjoint, different-starts, off-named, named-disjoint, the-block, block-named, block-long}
 
 pub length-fits : (len : ℕ) → length-right len ≡ true → len ≤ longest
 unfolding length-right
@@ -61,25 +61,35 @@ finds-own (e ∷ es) a p (suc k) h =
     (λ q. different-starts e x d (not-empty e a0) px (q ∙ start-at es k)) in
     rw (ne, finds-own es a1 p1 k l)
 
-slot-not-boot-info : (e : Entry) → is-slot e ≡ true → has-name boot-info e ≡ false
-unfolding is-slot is-fixed-name any six-names has-name
-slot-not-boot-info e h =
+-- a slot has none of the six names
+slot-not-fixed : (e : Entry) → is-slot e ≡ true → (i : ℕ) → i < 6 → has-name (getD six-names i []) e ≡ false
+unfolding is-slot is-fixed-name has-name six-names
+slot-not-fixed e h i l =
     let (_, other) = and-true (multiple 4 (e .flags)) (not (is-fixed-name (name e))) h in
-    or-false (same (name e) boot-info) _ (not-true (is-fixed-name (name e)) other) .0
+    not-true _ (all-at (λ n. not (same (name e) n)) six-names [] i
+    (all-of-none (same (name e)) six-names (not-true (is-fixed-name (name e)) other)) l)
 
 module _ (s : Setting) (len : ℕ) (t : List ℕ) (fits : len ≤ longest) (st : Standing s len t) where
   abbrev ss : List Entry
   ss = keep is-slot (entries t)
 
-  slot-not-empty : (k : ℕ) → k < length ss → 0 < getD ss k no-entry .size
-  slot-not-empty k l =
-      not-empty (getD ss k no-entry)
+  slot-long : (k : ℕ) → k < length ss → block-size ≤ getD ss k no-entry .size
+  slot-long k l =
+      a-block-long (getD ss k no-entry)
       (all-at range-aligned ss no-entry k (all-of-kept range-aligned is-slot (entries t) (st .rule5)) l)
+
+  slot-not-empty : (k : ℕ) → k < length ss → 0 < getD ss k no-entry .size
+  slot-not-empty k l = omega (arith, slot-long k l)
 
   slot-inside : (k : ℕ) → k < length ss → getD ss k no-entry .start + getD ss k no-entry .size ≤ len
   slot-inside k l =
       ends-inside len (getD ss k no-entry)
       (all-at (range-inside len) ss no-entry k (all-of-kept (range-inside len) is-slot (entries t) (st .rule6)) l)
+
+  -- the first 4,096 bytes of a slot are inside the image
+  pub slot-begins-inside : (k : ℕ) → k < length (slots (entries t)) → getD (starts t) k 0 + block-size ≤ len
+  unfolding starts slot-starts slots
+  slot-begins-inside k l = rw (start-at ss k) (omega (arith, slot-long k l, slot-inside k l))
 
   boot-info-named : any (has-name boot-info) (entries t) ≡ true
   unfolding six-named six-names all
@@ -95,18 +105,50 @@ module _ (s : Setting) (len : ℕ) (t : List ℕ) (fits : len ≤ longest) (st :
       not-empty (named boot-info (entries t))
       (first-of-all range-aligned (has-name boot-info) no-entry (entries t) boot-info-named (st .rule5))
 
-  -- it does not overlap BOOT_INFO, which starts at 0
+  -- a slot does not overlap an entry with one of the six names
+  pub slot-off-named : (i : ℕ) → i < 6 → any (has-name (getD six-names i [])) (entries t) ≡ true
+      → (k : ℕ)
+      → k < length ss
+      → Disjoint (named (getD six-names i []) (entries t)) (getD ss k no-entry)
+  slot-off-named i li there k l =
+      let n = getD six-names i [] in
+      named-disjoint (entries t) (st .rule7) n there (getD ss k no-entry)
+      (all-at _ ss no-entry k (all-of-kept _ is-slot (entries t) (off-named (entries t) (st .rule7) n there)) l)
+      (slot-not-fixed (getD ss k no-entry) (all-at is-slot ss no-entry k (kept-pass is-slot (entries t)) l) i li)
+
+  -- BOOT_INFO starts at 0
   slot-above-0 : (k : ℕ) → k < length ss → 0 < getD ss k no-entry .start
+  unfolding six-names
   slot-above-0 k l =
       after (named boot-info (entries t)) (getD ss k no-entry) boot-info-start boot-info-not-empty (slot-not-empty k l)
-      (named-disjoint (entries t) (st .rule7) boot-info boot-info-named (getD ss k no-entry)
-      (all-at _ ss no-entry k
-      (all-of-kept _ is-slot (entries t) (off-named (entries t) (st .rule7) boot-info boot-info-named)) l)
-      (slot-not-boot-info (getD ss k no-entry) (all-at is-slot ss no-entry k (kept-pass is-slot (entries t)) l)))
+      (slot-off-named 0 (omega arith) boot-info-named k l)
     where
       after : (b e : Entry) → b .start ≡ 0 → 0 < b .size → 0 < e .size → Disjoint b e → 0 < e .start
       after b e z p q (inl d) = omega arith
       after b e z p q (inr d) = absurd (omega arith)
+
+  -- nor, with its first 4,096 bytes, the first granule of one of the four blocks
+  pub slot-off-block : (i : ℕ) → i < 4
+      → (k : ℕ)
+      → k < length (slots (entries t))
+      → (j : ℕ)
+      → (getD (starts t) k 0 ≤ j) × (j < getD (starts t) k 0 + block-size)
+      → (the-block s len t st i .start ≤ j) × (j < the-block s len t st i .start + s .granule)
+      → ⊥
+  unfolding starts slot-starts slots six-names
+  slot-off-block i li k l j (from, to) (at-least, below) =
+      apart (the-block s len t st i) (getD ss k no-entry) (block-long s len t st i li) (slot-long k l)
+      (slot-off-named (suc (suc i)) (omega arith) (block-named s len t st i li) k l) (rw (start-at ss k) at from) (rw (start-at ss k) at to)
+      at-least below
+    where
+      apart : (b e : Entry) → s .granule ≤ b .size → block-size ≤ e .size → Disjoint b e
+          → e .start ≤ j
+          → j < e .start + block-size
+          → b .start ≤ j
+          → j < b .start + s .granule
+          → ⊥
+      apart b e p q (inl d) x y z w = omega arith
+      apart b e p q (inr d) x y z w = omega arith
 
   kept-start : (k : ℕ) → k < length ss → getD (map start-of ss) k 0 < longest
   kept-start k l = rw (start-at ss k) (omega (arith, slot-not-empty k l, slot-inside k l))

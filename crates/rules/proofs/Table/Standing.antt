@@ -4,7 +4,7 @@ use mathlib.Core.Path.{_≡_, refl, sym, ap, _∙_}
 use mathlib.Core.Bool.{Bool, true, false, not, _&&_, _||_}
 use mathlib.Core.Logic.{_⊎_, inl, inr}
 use mathlib.Core.List.{List, [], _∷_}
-use Prim.Native.Nat.{ℕ, zero, suc, _+_, _≤_, _<_}
+use Prim.Native.Nat.{ℕ, zero, suc, _+_, _≤_, _<_, _%_}
 use native.Mathlib.Omega.{arith}
 use lib.Dec.{eqb, leb}
 use borrow.Author.Tests.{eqb-true, eqb-false, leb-true, not-true}
@@ -90,6 +90,13 @@ not-empty e h =
     positive zero z = absurd (z refl)
     positive (suc n) z = omega arith
 
+pub a-block-long : (e : Entry) → range-aligned e ≡ true → block-size ≤ e .size
+unfolding range-aligned multiple
+a-block-long e h =
+    let (aligned, _) = and-true (multiple block-size (e .start) && multiple block-size (e .size)) (not (eqb (e .size) 0)) h in
+    let z = eqb-true (e .size % block-size) 0 (and-true (multiple block-size (e .start)) (multiple block-size (e .size)) aligned .1) in
+    omega (arith, z, not-empty e h)
+
 pub ends-inside : (len : ℕ) (e : Entry) → range-inside len e ≡ true → e .start + e .size ≤ len
 unfolding range-inside
 ends-inside len e h = leb-true (e .start + e .size) len h
@@ -166,7 +173,7 @@ pub record FourBlocks (g len t0 t1 c0 c1 : ℕ) : Type 0 where
   pub spt1-cpb0 : Apart g t1 c0
   pub spt1-cpb1 : Apart g t1 c1
 
-abbrev block-names : List (List ℕ)
+abbrev pub block-names : List (List ℕ)
 block-names = spt0-name ∷ spt1-name ∷ cpb0-name ∷ cpb1-name ∷ []
 
 granules-apart : (g : ℕ) (d e : Entry) → g ≤ d .size → g ≤ e .size → Disjoint d e → Apart g (d .start) (e .start)
@@ -174,10 +181,10 @@ granules-apart g d e p q (inl h) = inl (omega arith)
 granules-apart g d e p q (inr h) = inr (omega arith)
 
 module _ (s : Setting) (len : ℕ) (t : List ℕ) (st : Standing s len t) where
-  abbrev the-block : ℕ → Entry
+  abbrev pub the-block : ℕ → Entry
   the-block i = named (getD block-names i []) (entries t)
 
-  block-named : (i : ℕ) → i < 4 → any (has-name (getD block-names i [])) (entries t) ≡ true
+  pub block-named : (i : ℕ) → i < 4 → any (has-name (getD block-names i [])) (entries t) ≡ true
   unfolding all
   block-named i l =
       all-at (λ n. any (has-name n) (entries t)) block-names [] i
@@ -188,7 +195,7 @@ module _ (s : Setting) (len : ℕ) (t : List ℕ) (st : Standing s len t) where
       six : all (λ n. any (has-name n) (entries t)) (boot-info ∷ factory-image ∷ block-names) ≡ true
       six = unfold six-named six-names in st .rule8
 
-  block-long : (i : ℕ) → i < 4 → s .granule ≤ the-block i .size
+  pub block-long : (i : ℕ) → i < 4 → s .granule ≤ the-block i .size
   unfolding blocks-on-granules
   block-long i l =
       granule-long (s .granule) (the-block i)
@@ -209,11 +216,11 @@ module _ (s : Setting) (len : ℕ) (t : List ℕ) (st : Standing s len t) where
       (getD block-names i []) (block-named i li) (getD block-names j []) (block-named j lj)
       (λ e. clash (same (getD block-names i []) (getD block-names j [])) (same-of _ _ e) ne))
 
-  spt0-told : named spt0-name (entries t) .start ≡ s .spt0
+  pub spt0-told : named spt0-name (entries t) .start ≡ s .spt0
   unfolding tables-as-told
   spt0-told = eqb-true _ (s .spt0) (and-true (eqb (named spt0-name (entries t) .start) (s .spt0)) _ (st .rule10) .0)
 
-  spt1-told : named spt1-name (entries t) .start ≡ s .spt1
+  pub spt1-told : named spt1-name (entries t) .start ≡ s .spt1
   unfolding tables-as-told
   spt1-told = eqb-true _ (s .spt1) (and-true (eqb (named spt0-name (entries t) .start) (s .spt0)) _ (st .rule10) .1)
 

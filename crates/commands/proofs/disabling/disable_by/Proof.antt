@@ -91,8 +91,7 @@ slot-start-requires c κs =
       blocks-read c .table,
       slot-counted (a .setting) (a .image .now) (a .v) (s .pre) (a .slot .0)
           (at-ask-slot .ask-slot .result) (at-ask-slot .ask-slot .ensures) (at-enum-told .enum-told .given .1)
-          (at-block-at .block-at .result .now) (at-block-at2 .block-at2 .result .now)
-          (at-block-at .block-at .ensures .0) (at-block-at2 .block-at2 .ensures .0),
+          (at-block-at .block-at .result .now) (at-block-at .block-at .ensures .0),
     )
 
 giving-requires : tie.Need-giving-requires

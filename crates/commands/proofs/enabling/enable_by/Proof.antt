@@ -1,13 +1,16 @@
 -- `enable_by` refuses or starts enable as its definition says. Assumes nothing.
-use mathlib.Core.Path.{refl}
+use mathlib.Core.Path.{refl, sym, _∙_}
+use Prim.Native.Nat.{_<_}
 use native.Mathlib.Omega.{arith}
+use lib.ListN.{length}
 use borrow.Author.Needs.{needs}
-use Rattle.rules.specs.Table.{entry-count}
+use Rattle.rules.specs.Answers.{numbered}
+use Rattle.rules.specs.Table.{entry-count, entries, slots}
 use Rattle.rules.specs.Commands.{enable}
 use Rattle.reading.specs.Inner.Located.{Located}
 use Rattle.reading.proofs.Opening.{located, has-entries, has-pointers}
-use Rattle.commands.proofs.Locating.{readable}
-use Rattle.commands.proofs.Asking.{returns-refused, enable-refused, enable-started, slot-counted}
+use Rattle.commands.proofs.Locating.{has-rows, readable}
+use Rattle.commands.proofs.Asking.{returns-refused, enable-refused, enable-refused-14, enable-started, slot-counted, begins-inside}
 use Rattle.commands.proofs.enabling.enable_by.Statement.{statement}
 use Rattle.commands.proofs.enabling.enable_by.Tie as tie
 
@@ -36,89 +39,135 @@ block-at-requires c κs =
     let s = c .before .before .before .before in
     where-blocks-are s .table-inside
 
-block-at-requires-2 : tie.Need-block-at-requires-2
-block-at-requires-2 c κs =
-    let s = c .before .before .before .before .before in
-    where-blocks-are s .pointers-inside
-
 rows-of-requires : tie.Need-rows-of-requires
 rows-of-requires c κs =
+    let s = c .before .before .before .before .before in
+    let t = c .block-at .result .now in
+    has-entries (where-blocks-are s) t (entry-count t) (c .block-at .ensures) refl
+
+-- the slot is there
+is-counted : (c : tie.After-block-at)
+    → let s = c .before .before .before .before .before in
+    s .args .slot .0 < length (slots (entries (c .block-at .result .now)))
+is-counted c =
+    let at-enum-told = c .before in
+    let at-ask-slot = at-enum-told .before .before in
+    let s = at-ask-slot .before .before in
+    let a = s .args in
+    slot-counted (a .setting) (a .image .now) (a .v) (s .pre) (a .slot .0) (at-ask-slot .ask-slot .result)
+    (at-ask-slot .ask-slot .ensures) (at-enum-told .enum-told .given .1) (c .block-at .result .now) (c .block-at .ensures .0)
+
+slot-start-requires : tie.Need-slot-start-requires
+slot-start-requires c κs =
     let at-block-at = c .before in
-    let s = at-block-at .before .before .before .before .before in
-    let t = at-block-at .block-at .result .now in
-    has-entries (where-blocks-are s) t (entry-count t) (at-block-at .block-at .ensures) refl
+    let s = at-block-at .before .before .before .before .before in (
+      has-rows (where-blocks-are s) (at-block-at .block-at .result .now) (c .rows-of .result)
+          (at-block-at .block-at .ensures) (c .rows-of .ensures),
+      is-counted at-block-at,
+    )
+
+is-erased-requires : tie.Need-is-erased-requires
+is-erased-requires c κs =
+    let at-block-at = c .before .before in
+    let at-enum-told = at-block-at .before in
+    let at-ask-slot = at-enum-told .before .before in
+    let s = at-ask-slot .before .before in
+    let a = s .args in
+    begins-inside (a .setting) (a .image .now) (a .v) (s .pre) (a .slot .0) (at-ask-slot .ask-slot .result)
+    (at-ask-slot .ask-slot .ensures) (at-enum-told .enum-told .given .1) (at-block-at .block-at .result .now)
+    (at-block-at .block-at .ensures .0) (c .slot-start .result) (c .slot-start .ensures)
+
+refuse-requires-2 : tie.Need-refuse-requires-2
+refuse-requires-2 c κs = search needs
+
+returns : tie.Need-returns
+returns c =
+    let at-if1 = c .before in
+    let at-is-erased = at-if1 .before in
+    let at-slot-start = at-is-erased .before in
+    let at-block-at = at-slot-start .before .before in
+    let at-enum-told = at-block-at .before in
+    let at-ask-slot = at-enum-told .before .before in
+    let s = at-ask-slot .before .before in
+    let a = s .args in
+    returns-refused (a .setting) (a .image .now) (a .v) (enable (a .slot .0)) (c .refuse2 .result) (numbered 14)
+    (c .refuse2 .ensures)
+    (enable-refused-14 (a .setting) (a .image .now) (a .v) (s .pre) (a .slot .0) (at-ask-slot .ask-slot .result)
+    (at-ask-slot .ask-slot .ensures) (at-enum-told .enum-told .given .1) (at-block-at .block-at .result .now)
+    (at-block-at .block-at .ensures .0) (at-slot-start .slot-start .result) (at-slot-start .slot-start .ensures)
+    (sym (at-is-erased .is-erased .ensures) ∙ at-if1 .if1 .taken))
+
+block-at-requires-2 : tie.Need-block-at-requires-2
+block-at-requires-2 c κs =
+    let s = c .before .before .before .before .before .before .before .before .before in
+    where-blocks-are s .pointers-inside
 
 places-of-requires : tie.Need-places-of-requires
 places-of-requires c κs =
-    let at-block-at2 = c .before in
-    let s = at-block-at2 .before .before .before .before .before .before in
-    has-pointers (where-blocks-are s) (at-block-at2 .block-at2 .result .now)
-    (at-block-at2 .block-at2 .ensures)
+    let s = c .before .before .before .before .before .before .before .before .before .before in
+    has-pointers (where-blocks-are s) (c .block-at2 .result .now) (c .block-at2 .ensures)
 
 cast-at0 : tie.Need-cast-at0
 cast-at0 c =
-    let s = c .before .before .before .before .before .before .before .before .before in
+    let s = c .before .before .before .before .before .before .before .before .before .before .before .before in
     let l = where-blocks-are s in omega (arith, l .cpb0-inside, l .short)
 
 cast-at1 : tie.Need-cast-at1
 cast-at1 c =
-    let s = c .before .before .before .before .before .before .before .before .before .before in
+    let s = c .before .before .before .before .before .before .before .before .before .before .before .before .before in
     let l = where-blocks-are s in omega (arith, l .cpb1-inside, l .short)
 
 enable-job-requires : tie.Need-enable-job-requires
 enable-job-requires c κs =
     let at-places-of = c .before .before in
-    let at-rows-of = at-places-of .before in
-    let at-block-at2 = at-rows-of .before in
-    let at-block-at = at-block-at2 .before in
-    let at-enum-told = at-block-at .before in
-    let at-ask-slot = at-enum-told .before .before in
-    let s = at-ask-slot .before .before in
-    let a = s .args in
-    let img = a .image .now in
-    let st = a .setting in
-    let t = at-block-at .block-at .result .now in
-    let p = at-block-at2 .block-at2 .result .now in (
-      readable (where-blocks-are s) t p (at-rows-of .rows-of .result) (at-places-of .places-of .result)
-          (at-block-at .block-at .ensures) (at-block-at2 .block-at2 .ensures) (at-rows-of .rows-of .ensures)
-          (at-places-of .places-of .ensures),
-      slot-counted st img (a .v) (s .pre) (a .slot .0) (at-ask-slot .ask-slot .result) (at-ask-slot .ask-slot .ensures)
-          (at-enum-told .enum-told .given .1) t p (at-block-at .block-at .ensures .0) (at-block-at2 .block-at2 .ensures .0),
+    let at-block-at2 = at-places-of .before in
+    let at-slot-start = at-block-at2 .before .before .before in
+    let at-rows-of = at-slot-start .before in
+    let at-block-at = at-rows-of .before in
+    let s = at-block-at .before .before .before .before .before in (
+      (
+        readable (where-blocks-are s) (at-block-at .block-at .result .now) (at-block-at2 .block-at2 .result .now)
+            (at-rows-of .rows-of .result) (at-places-of .places-of .result) (at-block-at .block-at .ensures)
+            (at-block-at2 .block-at2 .ensures) (at-rows-of .rows-of .ensures) (at-places-of .places-of .ensures),
+        is-counted at-block-at,
+      ),
+      at-slot-start .slot-start .ensures,
     )
 
 begun-requires : tie.Need-begun-requires
 begun-requires c κs = search needs
 
-returns : tie.Need-returns
-returns c =
+returns-2 : tie.Need-returns-2
+returns-2 c =
     let at-asked = c .before .before in
     let at-ask-slot = at-asked .before .before in
     let s = at-ask-slot .before .before in
     let a = s .args in
-    let img = a .image .now in
-    let st = a .setting in
-    returns-refused st img (a .v) (enable (a .slot .0)) (c .refuse .result)
+    returns-refused (a .setting) (a .image .now) (a .v) (enable (a .slot .0)) (c .refuse .result)
     (at-asked .asked .given .0 .0)
     (c .refuse .ensures)
-    (enable-refused st img (a .v) (s .pre) (a .slot .0) (at-ask-slot .ask-slot .result)
+    (enable-refused (a .setting) (a .image .now) (a .v) (s .pre) (a .slot .0) (at-ask-slot .ask-slot .result)
     (at-ask-slot .ask-slot .ensures) (at-asked .asked .given .0 .0)
     (at-asked .asked .given .1))
 
-returns-2 : tie.Need-returns-2
-returns-2 c =
+returns-3 : tie.Need-returns-3
+returns-3 c =
     let at-enable-job = c .before in
-    let at-block-at2 = at-enable-job .before .before .before .before .before in
-    let at-block-at = at-block-at2 .before in
+    let at-block-at2 = at-enable-job .before .before .before .before in
+    let at-if1 = at-block-at2 .before in
+    let at-is-erased = at-if1 .before in
+    let at-slot-start = at-is-erased .before in
+    let at-block-at = at-slot-start .before .before in
     let at-enum-told = at-block-at .before in
     let at-ask-slot = at-enum-told .before .before in
     let s = at-ask-slot .before .before in
     let a = s .args in
-    let img = a .image .now in
-    let st = a .setting in
-    enable-started st img (a .v) (s .pre) (a .slot .0) (at-ask-slot .ask-slot .result)
+    enable-started (a .setting) (a .image .now) (a .v) (s .pre) (a .slot .0) (at-ask-slot .ask-slot .result)
     (at-ask-slot .ask-slot .ensures) (at-enum-told .enum-told .given .1) (at-block-at .block-at .result .now)
-    (at-block-at2 .block-at2 .result .now) (at-block-at .block-at .ensures .0) (at-block-at2 .block-at2 .ensures .0)
-    (c .begun .result) (at-enable-job .enable-job .result) (c .begun .ensures) (at-enable-job .enable-job .ensures)
+    (at-block-at .block-at .ensures .0) (at-slot-start .slot-start .result) (at-slot-start .slot-start .ensures)
+    (sym (at-is-erased .is-erased .ensures) ∙ at-if1 .if1 .left)
+    (at-block-at2 .block-at2 .result .now) (c .begun .result) (at-enable-job .enable-job .result)
+    (at-block-at2 .block-at2 .ensures .0) (c .begun .ensures) (at-enable-job .enable-job .ensures)
 
 pub enable-by-spec : {M : Type 1} → statement M
 enable-by-spec =
@@ -129,12 +178,16 @@ enable-by-spec =
     refuse-requires
     enum-told
     block-at-requires
-    block-at-requires-2
     rows-of-requires
+    slot-start-requires
+    is-erased-requires
+    refuse-requires-2
+    returns
+    block-at-requires-2
     places-of-requires
     cast-at0
     cast-at1
     enable-job-requires
     begun-requires
-    returns
-    returns-2)
+    returns-2
+    returns-3)

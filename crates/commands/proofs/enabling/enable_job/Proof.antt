@@ -20,7 +20,7 @@ free-by-definition : (s : tie.Start)
 unfolding free-from
 free-by-definition s =
     let a = s .args in
-    free-is (a .p .now) (a .places) (s .pre .0 .pointers)
+    free-is (a .p .now) (a .places) (s .pre .0 .0 .pointers)
     ∙ sym (free-by-value (starts (a .t .now)) (places (a .p .now)))
 
 comes-first-requires : tie.Need-comes-first-requires
@@ -40,21 +40,18 @@ returns c =
     ∙ (enable-none (a .to .len) (a .to .granule) (a .to .at0) (a .to .at1) (starts (a .t .now)) (a .p .now) (a .slot .0)
     (sym (at-comes-first .comes-first .ensures) ∙ at-if1 .if1 .taken))
 
-slot-start-requires : tie.Need-slot-start-requires
-slot-start-requires c κs = search needs
-
 one-place-requires : tie.Need-one-place-requires
 one-place-requires c κs =
-    let s = c .before .before .before .before .before .before .before in
+    let s = c .before .before .before .before .before .before in
     let p = s .args .p .now in
-    let h = s .pre .0 .pointers in
+    let h = s .pre .0 .0 .pointers in
     omega (arith, layout p (h .block .stands) .1, count-is p (s .args .places) h)
 
 cast-into-places : tie.Need-cast-into-places
 cast-into-places c =
-    let s = c .before .before .before .before .before .before .before .before .before in
+    let s = c .before .before .before .before .before .before .before .before in
     let p = s .args .p .now in
-    let h = s .pre .0 .pointers in
+    let h = s .pre .0 .0 .pointers in
     omega (arith, places-fit p (h .block .stands) .in-block, offset-is p (s .args .places) h)
 
 bytes-of-requires : tie.Need-bytes-of-requires
@@ -69,17 +66,15 @@ returns-2 c =
     let at-bytes-of = c .before in
     let at-one-place = at-bytes-of .before .before in
     let at-if2 = at-one-place .before in
-    let at-slot-start = at-if2 .before .before in
-    let at-if1 = at-slot-start .before in
+    let at-if1 = at-if2 .before .before in
     let at-comes-first = at-if1 .before in
     let start = at-comes-first .before .before .before in
     let a = start .args in
-    let h = start .pre .0 .pointers in
+    let h = start .pre .0 .0 .pointers in
     c .into-places .ensures
     ∙ (enable-place (a .to .len) (a .to .granule) (a .to .at0) (a .to .at1) (starts (a .t .now)) (a .p .now) (a .slot .0)
     (sym (at-comes-first .comes-first .ensures) ∙ at-if1 .if1 .left) (a .places .free .0)
-    (at-slot-start .slot-start .result)
-    (free-by-definition start) (at-slot-start .slot-start .ensures) (a .places .offset) (at-one-place .one-place .result)
+    (a .start) (free-by-definition start) (start .pre .1) (a .places .offset) (at-one-place .one-place .result)
     (at-bytes-of .bytes-of .result) (omega (arith, count-is (a .p .now) (a .places) h, at-if2 .if2 .taken))
     (offset-is (a .p .now) (a .places) h)
     (at-one-place .one-place .ensures) (at-bytes-of .bytes-of .ensures))
@@ -95,17 +90,15 @@ unfolding order-by
 returns-3 c =
     let at-order-with-first = c .before in
     let at-if2 = at-order-with-first .before in
-    let at-slot-start = at-if2 .before .before in
-    let at-if1 = at-slot-start .before in
+    let at-if1 = at-if2 .before .before in
     let at-comes-first = at-if1 .before in
     let start = at-comes-first .before .before .before in
     let a = start .args in
     c .pair-rewritten .ensures
     ∙ (enable-rewrite (a .to .len) (a .to .granule) (a .to .at0) (a .to .at1) (starts (a .t .now)) (a .p .now) (a .slot .0)
     (sym (at-comes-first .comes-first .ensures) ∙ at-if1 .if1 .left) (a .places .free .0)
-    (at-slot-start .slot-start .result)
-    (free-by-definition start) (at-slot-start .slot-start .ensures) (at-order-with-first .order-with-first .result)
-    (omega (arith, count-is (a .p .now) (a .places) (start .pre .0 .pointers), at-if2 .if2 .left))
+    (a .start) (free-by-definition start) (start .pre .1) (at-order-with-first .order-with-first .result)
+    (omega (arith, count-is (a .p .now) (a .places) (start .pre .0 .0 .pointers), at-if2 .if2 .left))
     (at-order-with-first .order-with-first .ensures))
 
 pub enable-job-spec : {M : Type 1} → statement M
@@ -115,7 +108,6 @@ enable-job-spec =
     comes-first-requires
     no-steps-requires
     returns
-    slot-start-requires
     one-place-requires
     cast-into-places
     bytes-of-requires
