@@ -7,12 +7,14 @@ keep the reading and make the pairs agree, and the further command must leave wh
 """
 
 import pathlib
+import random
 
 import reference
 from reference import FIXED, LISTING, QUARRY_SLOTS, Refused, Setting, make_image, make_pointers, make_table, quarry
 
 CRATES = pathlib.Path(__file__).parent.parent / "crates"
 NEW_NAME = b"SOLVER_2027_JUL"
+MIDDLE = Setting(32768, 0x10000, 0x18000)
 WIDE = Setting(65536, 0x20000, 0x30000)
 CPB0, CPB1 = 0x6000, 0x7000
 MOVED_STARTS = (0x11000, 0x10000, 0xA000)
@@ -35,13 +37,13 @@ def moved(held):
     return quarry(held, FIXED + slots, 73728)
 
 
-def wide():
-    """The six entries and three slots on granules of 65,536 bytes."""
+def on_granules(size):
+    """The six entries and three slots on granules of this many bytes."""
     names = [row[0] for row in FIXED]
-    rows = [(name, 0x10000 * k, 0x10000, 1) for k, name in enumerate(names)]
-    rows += [(name, 0x60000 + 0x1000 * k, 0x1000, 0) for k, (name, *rest) in enumerate(QUARRY_SLOTS)]
-    table, pointers = make_table(rows), make_pointers((0x60000, 0x61000))
-    return make_image(0x70000, (table, table), (pointers, pointers), (0x20000, 0x30000), (0x40000, 0x50000))
+    rows = [(name, size * k, size, 1) for k, name in enumerate(names)]
+    rows += [(name, 6 * size + 0x1000 * k, 0x1000, 0) for k, (name, *rest) in enumerate(QUARRY_SLOTS)]
+    table, pointers = make_table(rows), make_pointers((6 * size, 6 * size + 0x1000))
+    return make_image(7 * size, (table, table), (pointers, pointers), (2 * size, 3 * size), (4 * size, 5 * size))
 
 
 def with_entries(count):
@@ -70,7 +72,8 @@ IMAGES = {
     "moved_three": sent(moved((0x10000, 0xA000, 0x11000)), MOVED_STARTS),
     "first_copies_damaged": damaged([(0x4000, 0), (CPB0, 3)]),
     "second_copies_damaged": damaged([(0x5000, 4095), (CPB1, 4095)]),
-    "wide": sent(wide(), (0x60000, 0x61000, 0x62000)),
+    "middle": sent(on_granules(32768), (0x30000, 0x31000, 0x32000)),
+    "wide": sent(on_granules(65536), (0x60000, 0x61000, 0x62000)),
     "entries_127": with_entries(127),
     "entries_128": with_entries(128),
     "no_bytes": b"",
@@ -110,10 +113,10 @@ class Run:
     def rename(self, name):
         self.finish("rename", 0, name, shown=f"rename 0 {name.decode()}")
 
-    def cut(self, command, done, wiped):
+    def cut(self, command, done):
         steps = reference.start(self.image, LISTING, command)
-        self.image = reference.cut(self.image, steps, LISTING.granule, done, wiped)
-        self.lines.append(f"{title(command)}: cut after {done} steps, {wiped} bytes into the next")
+        self.image = reference.cut(self.image, steps, LISTING.granule, done)
+        self.lines.append(f"{title(command)}: cut after {done} steps")
 
     def place(self, k):
         for name, at in (("CPB0", CPB0), ("CPB1", CPB1)):
@@ -151,7 +154,7 @@ def cases():
     run.finish("disable", 3)
     yield run
     run = Run("case 6", "quarry_sent")
-    run.cut(("enable", 2), 15, 0)
+    run.cut(("enable", 2), 15)
     run.place(2)
     run.order()
     run.finish("repair")
@@ -159,9 +162,9 @@ def cases():
     run.place(3)
     run.order()
     yield run
-    for heading, wiped in (("case 8, after 4,097 steps", 0), ("case 8, inside step 4,098", 1)):
+    for heading, done in (("case 8, after 4,101 steps", 4101), ("case 8, after 4,102 steps", 4102)):
         run = Run(heading, "highest_507")
-        run.cut(("enable", 2), 4097, wiped)
+        run.cut(("enable", 2), done)
         run.order()
         yield run
     for slot in (0, 1):
@@ -204,13 +207,25 @@ def in_order(runs):
 # ---- power cuts
 
 
-CUT_IMAGES = ["quarry_sent", "highest_506", "highest_507", "moved_sent", "moved_three"]
-CUT_IMAGES += ["first_copies_damaged", "second_copies_damaged", "wide"]
+def wiped(granule, chosen):
+    return bytes(0xFF if chosen(i) else 0 for i in range(granule))
 
 
 def wiped_choices(granule):
-    """After how many bytes an erase is cut: every number on the smallest granule, eight of them on a larger one."""
-    return list(range(granule + 1)) if granule == 4096 else [0, 1, 2, 3, 4, 4095, 4096, granule]
+    """Which bytes of the granule an erase that is cut has wiped: nothing, all, each of the first 32 alone, all but each of
+    these, so many of the lowest and of the highest in steps of 64, even ones, odd ones, and 64 choices by chance."""
+    none, every = bytes(granule), b"\xff" * granule
+    choices = [none, every]
+    for k in range(32):
+        alone = none[:k] + b"\xff" + none[k + 1 :]
+        choices += [alone, bytes(b ^ 0xFF for b in alone)]
+    for k in range(64, granule, 64):
+        choices += [every[:k] + none[k:], none[k:] + every[:k]]
+    choices += [wiped(granule, lambda i: i % 2 == 0), wiped(granule, lambda i: i % 2 == 1)]
+    for seed in range(64):
+        chance = random.Random(seed)
+        choices.append(wiped(granule, lambda i: chance.random() < 0.5))
+    return choices
 
 
 def reading_or_none(image, setting):
@@ -230,10 +245,11 @@ def tried(image, setting, command):
     new = reference.booked(old, command)
     flash = bytearray(image)
     counts = {"old": 0, "new": 0, "neither": 0}
+    inside = wiped_choices(setting.granule)
     for step in steps:
-        choices = wiped_choices(setting.granule) if step[0] == "erase" else [0]
-        for wiped in choices:
-            cut = reading_or_none(reference.cut(bytes(flash), [step], setting.granule, 0, wiped), setting)
+        choices = inside if step[0] == "erase" else [b""]
+        for choice in choices:
+            cut = reading_or_none(reference.cut(bytes(flash), [step], setting.granule, 0, choice), setting)
             counts["old" if cut == old else "new" if cut == new else "neither"] += 1
         if step[0] == "program":
             flash[step[1]] &= step[2]
@@ -244,13 +260,17 @@ def tried(image, setting, command):
     return f"{title(command)}: {len(steps)} steps, {cuts} cuts: {read}; {cuts} repaired, {cuts} then right"
 
 
+POWER_CUTS = ["quarry_sent", "highest_506", "highest_507", "moved_sent", "moved_three"]
+POWER_CUTS += ["first_copies_damaged", "second_copies_damaged", "middle", "wide"]
+
+
 def power_cuts():
     commands = []
     for slot in range(3):
         commands += [("enable", slot), ("disable", slot), ("rename", slot, NEW_NAME)]
     commands.append(("repair",))
-    for name in CUT_IMAGES:
-        setting = WIDE if name == "wide" else LISTING
+    for name in POWER_CUTS:
+        setting = {"middle": MIDDLE, "wide": WIDE}.get(name, LISTING)
         yield f"{name}.img, each erase cut {len(wiped_choices(setting.granule))} times"
         for command in commands:
             yield tried(IMAGES[name], setting, command)
@@ -271,11 +291,7 @@ def main():
         + ["entries_127", "entries_128", "no_bytes", "last_byte_sent"],
         [line for run in in_order(cases()) + list(empty_slots()) for line in run.lines],
     )
-    write(
-        "power_cuts",
-        CUT_IMAGES,
-        list(power_cuts()),
-    )
+    write("power_cuts", POWER_CUTS, list(power_cuts()))
 
 
 if __name__ == "__main__":

@@ -214,7 +214,7 @@ def programs(at, data):
 
 def rewrite(at, data):
     assert len(data) == BLOCK
-    return [("erase", at)] + programs(at + 4, data[4:]) + programs(at, data[:4])
+    return programs(at, bytes(4)) + [("erase", at)] + programs(at + 4, data[4:]) + programs(at, data[:4])
 
 
 def apply(image, steps, granule):
@@ -228,13 +228,14 @@ def apply(image, steps, granule):
     return bytes(after)
 
 
-def cut(image, steps, granule, done, wiped=0):
-    """The image where a job is cut after some steps, with so many bytes of the next one's erase done."""
+def cut(image, steps, granule, done, wiped=b""):
+    """The image where a job is cut after some steps. If an erase comes next, `wiped` has 0xFF for each byte of the
+    granule that it has wiped already, and 0 for each that is old."""
     after = apply(image, steps[:done], granule)
     if done < len(steps) and steps[done][0] == "erase":
         at = steps[done][1]
-        wiped = min(wiped, granule)
-        after = after[:at] + b"\xff" * wiped + after[at + wiped :]
+        old, new = (number(part) for part in (after[at : at + granule], wiped[:granule]))
+        after = after[:at] + (old | new).to_bytes(granule, "little") + after[at + granule :]
     return after
 
 

@@ -10,7 +10,7 @@
 
 enum { BLOCK_SIZE = 4096, STRETCHES_MAX = 64, REPAIRS_MAX = 8 };
 
-/* How much of the lowest bytes of a granule is erased when the power fails inside an erase. */
+/* How many of the lowest, or of the highest, bytes of a granule are erased when the power fails inside an erase. */
 static const size_t erased_lengths[] = {1,    2,    3,    4,    5,    8,     16,    20,    24,
                                         31,   32,   33,   40,   64,   128,   256,   512,   1024,
                                         2048, 4064, 4095, 4096, 8192, 16384, 32767, 32768, 65535};
@@ -99,8 +99,8 @@ static void observe(struct story *story, const struct work *work, size_t done, b
     ask_repair(story, work, moment);
 }
 
-/* Several states in which the power may leave a granule whose erase has begun: its lowest bytes erased, the rest old.
- */
+/* Some of the states in which the power may leave a granule whose erase has begun, each of its bytes erased or old: its
+ * lowest bytes erased, its highest, every other one. */
 static void observe_inside(struct story *story, const struct work *work, size_t done) {
     size_t granule = work->flash->granule;
     uint8_t *bytes = work->flash->bytes + work->steps[done].address;
@@ -110,8 +110,16 @@ static void observe_inside(struct story *story, const struct work *work, size_t 
     for (size_t i = 0; i < sizeof erased_lengths / sizeof erased_lengths[0] && erased_lengths[i] < granule; i++) {
         memset(bytes, 0xFF, erased_lengths[i]);
         observe(story, work, done, true);
+        memcpy(bytes, old, granule);
+        memset(bytes + granule - erased_lengths[i], 0xFF, erased_lengths[i]);
+        observe(story, work, done, true);
+        memcpy(bytes, old, granule);
     }
-    memcpy(bytes, old, granule);
+    for (size_t first = 0; first < 2; first++) {
+        for (size_t i = first; i < granule; i += 2) bytes[i] = 0xFF;
+        observe(story, work, done, true);
+        memcpy(bytes, old, granule);
+    }
     free(old);
 }
 

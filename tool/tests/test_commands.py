@@ -76,7 +76,7 @@ class Explain(Bench):
         steps = self.repair_steps()
         lines = self.lines(flash, "--enable", "P3")
         self.assertEqual(lines[:4], [f"power fails before step {steps + 1:,} of {2 * steps:,}: P2 starts, as now",
-                                     "inside it, an erase, or after it: P3 starts", "no other slot can start first",
+                                     "after it: P3 starts", "no other slot can start first",
                                      f"then: repair, {steps:,} steps"])
 
     def test_disable_of_the_second(self):

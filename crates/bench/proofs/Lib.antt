@@ -1,2 +1,2 @@
 pub mod Finishing
-pub mod Wipes
+pub mod Choices

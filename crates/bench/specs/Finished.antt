@@ -1,11 +1,9 @@
--- What a command that is started and run to its end answers and leaves, and a half-done erase. Assumes nothing.
-use mathlib.Core.Bool.{cond}
+-- What a command that is started and run to its end answers and leaves. Assumes nothing.
 use mathlib.Core.List.{List}
-use Prim.Native.Nat.{ℕ, zero, suc, _+_}
-use lib.Dec.{leb}
+use Prim.Native.Nat.{ℕ, zero, suc}
 use lib.ListN.{length}
 use Rattle.rules.specs.Answers.{Answer, refused, given}
-use Rattle.rules.specs.Steps.{wiped, steps}
+use Rattle.rules.specs.Steps.{steps}
 use Rattle.rules.specs.declared.Step.{Step}
 use Rattle.jobs.specs.Jobs.{did-by-run, image-after-run, steps-left}
 use Rattle.jobs.specs.declared.Job.{Job}
@@ -57,9 +55,3 @@ done-begun b img = done-after (b .answer) (b .job) img
 
 unfoldable pub left-begun : Begun → List ℕ → List ℕ
 left-begun b img = left-after (b .answer) (b .job) img
-
--- ---- a half-done erase
-
--- n bytes 0xFF from an address on where they are inside the image, else nothing
-unfoldable pub wiped-inside : ℕ → ℕ → List ℕ → List ℕ
-wiped-inside a n img = cond (leb (a + n) (length img)) (wiped a n img) img

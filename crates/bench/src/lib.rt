@@ -1,4 +1,6 @@
 // A command on an image in memory, run to its end or cut, for the programs that try the commands on real bytes.
+pub mod tearing; // a half-done erase
+
 use commands::Begun;
 use commands::Command;
 use commands::Outcome;
@@ -10,7 +12,7 @@ ghost use mathlib.Core.Path.{_≡_};
 ghost use Rattle.rules.specs.Commands.{start};
 ghost use Rattle.commands.specs.Begins.{command-of, start-result};
 ghost use Rattle.book.specs.Kept.{new-name};
-ghost use Rattle.bench.specs.Finished.{finished, left-finished, done-by, left-by, done-begun, left-begun, wiped-inside};
+ghost use Rattle.bench.specs.Finished.{finished, left-finished, done-by, left-by, done-begun, left-begun};
 
 // How many steps were done, or a refusal.
 pub enum Done {
@@ -69,22 +71,4 @@ pub fn finish(image: &mut [u8], setting: Setting, command: Command) -> Done
         ⌝ }
 {
     run_begun(image, begin(image, setting, command))
-}
-
-// So many bytes 0xFF from an address on: an erase, whole or half done. Nothing where they pass the image's end.
-pub fn wipe(image: &mut [u8], at: usize, n: usize)
-    ensures { λ r. ⌜ now (image .exit) ≡ wiped-inside at n (now (image .entry)) ⌝ }
-{
-    if image.len() < n {
-        return;
-    }
-    if image.len() - n < at {
-        return;
-    }
-    let mut end = at;
-    let mut i = 0;
-    while i < n {
-        end = text::put_byte(image, end, 0xFF);
-        i += 1;
-    }
 }

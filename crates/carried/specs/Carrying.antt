@@ -1,6 +1,6 @@
 -- Commands carried out with two runs, as `joined` says it of any number, and the readers asked. Assumes nothing.
 use mathlib.Core.Path.{_≡_}
-use mathlib.Core.Bool.{true}
+use mathlib.Core.Bool.{Bool, true}
 use mathlib.Core.List.{List, [], _∷_}
 use Prim.Native.Nat.{ℕ}
 use Rattle.rules.specs.declared.Setting.{Setting}
@@ -28,10 +28,11 @@ ran-twice j img first second r img′ =
 unfoldable pub as-asked : Setting → List ℕ → Carried → Type 0
 as-asked s img c = carried-out s img c × (pairs-agree s img ≡ true → Demand3-of-code s img (c ∷ []))
 
--- a start of this command, then two such runs: as asked, wherever in an erase the power then fails
+-- a start of this command, then two such runs: as asked, whatever an erase in which the power then fails
+-- had wiped
 unfoldable pub carried-twice : Setting → Command → List ℕ → ℕ → ℕ → Ran → List ℕ → Type 0
 carried-twice s command img first second r img′ =
-    (begun : Begun) × ((one : Run) × (one .budget ≡ first) × ((wiped : ℕ)
+    (begun : Begun) × ((one : Run) × (one .budget ≡ first) × ((wiped : List Bool)
     → as-asked s img
     (record { command = command; begun = begun; runs = two-runs one second r img′; wiped = wiped })))
 

@@ -1,6 +1,6 @@
 -- Commands carried out by the functions for C with two runs, as `joined_for_c` says it of any number. Assumes nothing.
 use mathlib.Core.Path.{_≡_}
-use mathlib.Core.Bool.{true}
+use mathlib.Core.Bool.{Bool, true}
 use mathlib.Core.List.{List, [], _∷_, map}
 use Prim.Native.Nat.{ℕ, zero, suc, _≤_}
 use lib.ListN.{length}
@@ -34,13 +34,13 @@ ran-if-started number l first second l′ =
 unfoldable pub as-asked-for-c : Setting → List ℕ → CarriedForC → Type 0
 as-asked-for-c s img c = carried-out-for-c s img c × (pairs-agree s img ≡ true → Demand3-for-c s img (c ∷ []))
 
--- a start of this command that returned this number, then such runs: as asked, wherever in an erase the power then
--- fails
+-- a start of this command that returned this number, then such runs: as asked, whatever an erase in which the
+-- power then fails had wiped
 unfoldable pub carried-twice-for-c : Setting → Command → ℕ → Lent → ℕ → ℕ → Lent → Type 0
 carried-twice-for-c s command number l first second l′ =
     (begun : List ℕ) × ((rs : List RunForC)
     × ((l′ ≡ left-after (lent begun (l .image) (l .done)) rs) × (budgeted number first second rs
-    × ((wiped : ℕ)
+    × ((wiped : List Bool)
     → as-asked-for-c s (l .image)
     (record { command = command; buffer = l .job; number = number; begun = begun; runs = rs; wiped = wiped })))))
 

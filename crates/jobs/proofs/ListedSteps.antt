@@ -39,13 +39,13 @@ module _ (a offset count : ℕ) (b ks v : List ℕ) (sized : Sized b ks v) where
   inside-part g len k Rewrite = inside-rewrite a b (sized .block) g len k
   inside-part g len k Places = inside-places a offset v (sized .value) g len k (meant count ks)
 
-part-bound : (kind : Kind) (count : ℕ) → part-length kind (min count place-room) ≤ 4097
+part-bound : (kind : Kind) (count : ℕ) → part-length kind (min count place-room) ≤ 4101
 unfolding part-length
 part-bound Nothing count = omega arith
 part-bound Rewrite count = omega arith
 part-bound Places count = omega arith
 
-pub listed-bound : (p : Plan) → listed-length p ≤ 8194
+pub listed-bound : (p : Plan) → listed-length p ≤ 8202
 unfolding listed-length
 listed-bound p = omega (arith, part-bound (p .first) (p .count), part-bound (p .second) (p .count))
 

@@ -15,13 +15,13 @@ ghost use Rattle.rules.specs.Steps.{steps};
 ghost use Rattle.jobs.specs.Jobs.{place-room, meant, part, listed, first-step};
 ghost use Rattle.jobs.specs.Inner.Parts.{Sized, part-length, listed-length, part-inside, listed-inside, chosen};
 
-// A rewrite: the erase and a byte each.
-const REWRITE_STEPS: usize = 4097;
+// A rewrite: four zeros, the erase and a byte each.
+const REWRITE_STEPS: usize = 4101;
 
 // ---- how many there are
 
 fn part_length(kind: Kind, count: usize) -> usize
-    ensures { λ r. ⌜ (r ≡ part-length kind (min count place-room)) × (r ≤ 4097) ⌝ }
+    ensures { λ r. ⌜ (r ≡ part-length kind (min count place-room)) × (r ≤ 4101) ⌝ }
 {
     match kind {
         Kind::Nothing => 0,
@@ -31,7 +31,7 @@ fn part_length(kind: Kind, count: usize) -> usize
 }
 
 pub fn step_count(plan: Plan) -> usize
-    ensures { λ r. ⌜ (r ≡ listed-length plan) × (r ≤ 8194) ⌝ }
+    ensures { λ r. ⌜ (r ≡ listed-length plan) × (r ≤ 8202) ⌝ }
 {
     let first = plan.first;
     let second = plan.second;

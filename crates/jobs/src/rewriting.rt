@@ -33,7 +33,7 @@ fn do_erase(image: &mut [u8], at: usize, granule: usize, window: Window) -> Wind
     rest
 }
 
-// Do those in a window: the erase, the bytes after the magic, the magic.
+// Do those in a window: zeros over the magic, the erase, the bytes after the magic, the magic.
 pub fn do_rewrite(image: &mut [u8], at: usize, granule: usize, block: &[u8], window: Window)
     requires { ⌜
         ((length (now block) ≡ block-size) × (at ≤ highest-address))
@@ -43,7 +43,9 @@ pub fn do_rewrite(image: &mut [u8], at: usize, granule: usize, block: &[u8], win
         now (image .exit) ≡ steps granule (chosen window (rewrite at (now (block .entry)))) (now (image .entry))
         ⌝ }
 {
-    let rest = do_erase(image, at, granule, window);
+    let zeros = [0u8; 4];
+    let after = programs::do_range(image, at, &zeros, window);
+    let rest = do_erase(image, at, granule, after);
     let last = programs::do_range(image, at + 4, &block[4..], rest);
     programs::do_range(image, at, &block[..4], last);
 }
@@ -53,10 +55,12 @@ pub fn is_inside(granule: usize, len: usize, at: usize, from: usize) -> bool
     requires { ⌜ at ≤ highest-address ⌝ }
     ensures { λ r. ⌜ r ≡ rewrite-inside granule len at from ⌝ }
 {
-    let skip = numbers::less(from, 1);
-    ((1 <= from) | numbers::ends_by(at, granule, len))
-        & (programs::are_inside(len, at + 4, REST_SIZE, skip)
-            & programs::are_inside(len, at, 4, numbers::less(skip, REST_SIZE)))
+    let after = numbers::less(from, 4);
+    let skip = numbers::less(after, 1);
+    programs::are_inside(len, at, 4, from)
+        & (((1 <= after) | numbers::ends_by(at, granule, len))
+            & (programs::are_inside(len, at + 4, REST_SIZE, skip)
+                & programs::are_inside(len, at, 4, numbers::less(skip, REST_SIZE))))
 }
 
 // The first of them.
@@ -64,10 +68,13 @@ pub fn next_in_rewrite(at: usize, block: &[u8], from: usize) -> Next
     requires { ⌜ (length (now block) ≡ block-size) × (at + 4 ≤ highest-address) ⌝ }
     ensures { λ r. ⌜ r ≡ first-step (drop from (rewrite at (now (block .entry)))) ⌝ }
 {
-    if from == 0 {
+    if from < 4 {
+        return Next::Is(Step::Program(at + from, 0));
+    }
+    if from == 4 {
         return Next::Is(Step::Erase(at));
     }
-    let skip = from - 1;
+    let skip = from - 5;
     if skip < REST_SIZE {
         return programs::next_program(at + 4, &block[4..], skip);
     }

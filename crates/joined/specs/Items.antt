@@ -1,4 +1,5 @@
 -- An item carried out by the code, as its caller sees it: a start, and runs of the job that it returned. Assumes nothing.
+use mathlib.Core.Bool.{Bool}
 use mathlib.Core.List.{List, [], _∷_, map}
 use Prim.Native.Nat.{ℕ}
 use lib.ListN.{length}
@@ -13,12 +14,12 @@ use Rattle.commands.specs.declared.Outcome.{Outcome as Answered}
 use Rattle.commands.specs.declared.Outcome.the-variants.{Started, Refused}
 use Rattle.joined.specs.Runs.{Run, all-ran, left-by-runs}
 
--- a command, what its start returned, the runs, and how far a power failure inside an erase got
+-- a command, what its start returned, the runs, and which bytes a power failure inside an erase had wiped
 pub record Carried : Type 0 where
   pub command : Command
   pub begun : Begun
   pub runs : List Run
-  pub wiped : ℕ
+  pub wiped : List Bool
 
 -- it is as the contracts of the start and of `jobs::run` say, from this flash. Of a start nothing but this is used: it
 -- is refused with document 01's number, or returns a job of the listed steps

@@ -1,6 +1,7 @@
 -- An item carried out by the functions for C, as their caller sees it: a job is the bytes of a lent buffer, an answer a
 -- number. Assumes nothing.
 use mathlib.Core.Path.{_≡_}
+use mathlib.Core.Bool.{Bool}
 use mathlib.Core.List.{List, [], _∷_, map}
 use Prim.Native.Nat.{ℕ, zero, suc}
 use lib.ListN.{length}
@@ -36,15 +37,15 @@ all-ran-for-c bytes img (r ∷ rs) =
 
 -- ---- a start, and runs of its job
 
--- a command, the buffer lent to its start, the number that this returned, the buffer that it left, the runs, and how
--- far a power failure inside an erase got
+-- a command, the buffer lent to its start, the number that this returned, the buffer that it left, the runs, and
+-- which bytes a power failure inside an erase had wiped
 pub record CarriedForC : Type 0 where
   pub command : Command
   pub buffer : List ℕ
   pub number : ℕ
   pub begun : List ℕ
   pub runs : List RunForC
-  pub wiped : ℕ
+  pub wiped : List Bool
 
 -- what the contract of its start says
 unfoldable pub begun-for-c : Setting → List ℕ → CarriedForC → Type 0

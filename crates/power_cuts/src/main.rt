@@ -1,11 +1,12 @@
 // Cuts every command at every step, and inside every erase, on the images under data/, and counts what is read then.
 //
-// Inside an erase on a granule of 4,096 bytes the power fails after every number of bytes from 0 to 4,096; on the wide
-// image, whose granule is 65,536, after 0, 1, 2, 3, 4, 4,095, 4,096 and 65,536. After each cut the flash is repaired and
-// one further command is finished. A line for each command says how many cuts there were, how many left the old
-// reading, the new one or another, after how many the repair kept the reading and made the pairs agree, and after how
-// many the further command then left what the book says.
+// Inside an erase the power fails with many choices of its bytes wiped (`choices`). The middle image has granules of
+// 32,768 bytes, the wide one of 65,536, the others of 4,096. After each cut the flash is repaired and one further command
+// is finished. A line for each command says how many cuts there were, how many left the old reading, the new one or
+// another, after how many the repair kept the reading and made the pairs agree, and after how many the further command
+// then left what the book says.
 use bench::Done;
+use bench::tearing::Choice;
 use book::Book;
 use book::Read;
 use commands::Command;
@@ -19,6 +20,7 @@ use tally::Tally;
 ghost use mathlib.Core.Path.{_≡_};
 ghost use lib.ListN.{length};
 
+mod choices;
 mod printing;
 mod tally;
 
@@ -65,10 +67,10 @@ fn copy(from: &[u8], to: &mut [u8]) {
     }
 }
 
-// The flash, with so many bytes from an address on wiped, and what it reads as.
-fn cut_flash(flash: &[u8], work: &mut [u8], setting: Setting, at: usize, k: usize) -> Read {
+// The flash, with a choice of the granule at an address wiped, and what it reads as.
+fn cut_flash(flash: &[u8], work: &mut [u8], setting: Setting, at: usize, choice: Choice) -> Read {
     copy(flash, work);
-    bench::wipe(work, at, k);
+    bench::tearing::tear(work, at, setting.granule, choice);
     book::read_book(work, setting)
 }
 
@@ -91,12 +93,12 @@ fn try_cut(
     work: &mut [u8],
     setting: Setting,
     at: usize,
-    k: usize,
+    choice: Choice,
     old: Book,
     new: Book,
     t: Tally,
 ) -> Tally {
-    let read = cut_flash(flash, work, setting, at, k);
+    let read = cut_flash(flash, work, setting, at, choice);
     let cut = read.book;
     let repaired = is_repaired(work, setting, cut);
     let right = is_right_then(work, setting, cut);
@@ -109,27 +111,6 @@ fn try_cut(
     )
 }
 
-// How many cuts are tried inside an erase.
-fn erase_cuts(granule: usize) -> usize {
-    if granule == SMALLEST {
-        return SMALLEST + 1;
-    }
-    8
-}
-
-// How many bytes of the granule a cut inside an erase leaves wiped.
-fn wiped_bytes(cut: usize, granule: usize) -> usize {
-    if granule == SMALLEST {
-        return cut;
-    }
-    match cut {
-        0 | 1 | 2 | 3 | 4 => cut,
-        5 => 4095,
-        6 => 4096,
-        _ => granule,
-    }
-}
-
 fn try_erase(
     flash: &[u8],
     work: &mut [u8],
@@ -139,7 +120,7 @@ fn try_erase(
     new: Book,
     t: Tally,
 ) -> Tally {
-    let count = erase_cuts(setting.granule);
+    let count = choices::count(setting.granule);
     let mut sum = t;
     let mut i = 0;
     while i < count {
@@ -148,7 +129,7 @@ fn try_erase(
             work,
             setting,
             at,
-            wiped_bytes(i, setting.granule),
+            choices::choice_of(i, setting.granule),
             old,
             new,
             sum,
@@ -171,7 +152,9 @@ fn try_next(
     match next {
         Next::Finished => t,
         Next::Is(step) => match step {
-            Step::Program(_, _) => try_cut(flash, work, setting, 0, 0, old, new, t),
+            Step::Program(_, _) => {
+                try_cut(flash, work, setting, 0, Choice::Lowest(0), old, new, t)
+            }
             Step::Erase(at) => try_erase(flash, work, setting, at, old, new, t),
         },
     }
@@ -248,7 +231,7 @@ fn try_image(image: &[u8], setting: Setting) {
 }
 
 fn try_file(path: &[u8], setting: Setting) {
-    printing::print_image(path, erase_cuts(setting.granule));
+    printing::print_image(path, choices::count(setting.granule));
     let mut image = image_buffer();
     let fd = os::open_read(path);
     let n = io::read_full(fd, &mut image);
@@ -269,6 +252,12 @@ fn main() {
     try_file(b"moved_three.img", setting);
     try_file(b"first_copies_damaged.img", setting);
     try_file(b"second_copies_damaged.img", setting);
+    let middle = Setting {
+        granule: 32768,
+        spt0: 0x10000,
+        spt1: 0x18000,
+    };
+    try_file(b"middle.img", middle);
     let wide = Setting {
         granule: 65536,
         spt0: 0x20000,

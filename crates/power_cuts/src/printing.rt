@@ -4,7 +4,7 @@ use commands::Outcome;
 use libc::STDOUT_FILENO;
 use rules::SlotNo;
 
-// The image, and after how many different numbers of bytes each erase is cut.
+// The image, and with how many choices of its bytes each erase is cut.
 pub fn print_image(path: &[u8], cuts: usize) {
     io::write_all(STDOUT_FILENO, path);
     io::write_all(STDOUT_FILENO, b", each erase cut ");

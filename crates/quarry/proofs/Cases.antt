@@ -10,7 +10,7 @@ use Rattle.rules.specs.Table.{table-stands}
 use Rattle.rules.specs.Steps.{steps}
 use Rattle.rules.specs.Commands.{name-allowed}
 use Rattle.quarry.specs.Quarry.{quarry-setting, longer-length, longer-table}
-use Rattle.quarry.specs.Cases.{Row, holds, starred, unstarred, case-1, case-2, case-3, case-4, case-5, case-6, case-7, case-7-full, case-8, case-8-inside, case-9, case-10, case-empty, case-last-byte}
+use Rattle.quarry.specs.Cases.{Row, holds, starred, unstarred, case-1, case-2, case-3, case-4, case-5, case-6, case-7, case-7-full, case-8, case-8-shown, case-8-inside, case-9, case-10, case-empty, case-last-byte}
 use Rattle.rules.specs.declared.Step.{Step}
 use Rattle.quarry.proofs.Opened.{rules}
 use Rattle.rules.proofs.Steps.Programming.{fast-steps, fast-is-steps}
@@ -65,6 +65,10 @@ case-8-computed : holds fast-steps case-8 ≡ true
 unfolding rules case-8
 case-8-computed = refl
 
+case-8-shown-computed : holds fast-steps case-8-shown ≡ true
+unfolding rules case-8-shown
+case-8-shown-computed = refl
+
 case-8-inside-computed : holds fast-steps case-8-inside ≡ true
 unfolding rules case-8-inside
 case-8-inside-computed = refl
@@ -95,7 +99,7 @@ starred-computed =
 unstarred-computed : all (holds fast-steps) unstarred ≡ true
 unfolding all unstarred
 unstarred-computed =
-    rw (case-8-computed, case-8-inside-computed, case-10-computed)
+    rw (case-8-computed, case-8-shown-computed, case-8-inside-computed, case-10-computed)
 
 -- a table that holds with the one evaluator holds with the other; nothing is computed here
 by-steps : (rs : List Row) → all (holds fast-steps) rs ≡ true → all (holds steps) rs ≡ true

@@ -16,7 +16,7 @@ use Rattle.rules.specs.Copies.{copy-read, pair-agrees, dump-stands, standing-du
 use Rattle.rules.specs.Readers.{order-in, row-after, slot-row, facts, name-in}
 use Rattle.rules.specs.Steps.{programmed, wiped, steps, programs, rewrite, rewrite-pair}
 use Rattle.rules.specs.Commands.{pointer-bytes, filled, pointers-of, free-place, is-first, slot-empty, into-place, append-steps, giving, into-places, half-cleared-names, padded-name, put-name, name-allowed, name-free, rename-steps, repair-pair, enable, disable, rename}
-use Rattle.rules.specs.Cuts.{Progress, run, may-run, runs, half-done, dropped}
+use Rattle.rules.specs.Cuts.{Progress, run, may-run, runs, wiped-where, half-done, dropped}
 use Rattle.rules.specs.Book.{Reading, the-commands, was-refused, finished, cut, how-ended, renamed, booked}
 use Rattle.quarry.specs.Quarry.{quarry-setting, padded, entry-bytes, quarry-table, quarry-pointers}
 use Rattle.rules.specs.declared.Place.the-variants.{Erased, Live, Dead}
@@ -171,8 +171,9 @@ step-examples :
     × (steps 2 (Erase 0 ∷ Program 0 5 ∷ []) (1 ∷ 2 ∷ 3 ∷ []) ≡ 5 ∷ 0xFF ∷ 3 ∷ [])
     × (programs 8 (1 ∷ 2 ∷ []) ≡ Program 8 1 ∷ Program 9 2 ∷ [])
     × (rewrite 8 (1 ∷ 2 ∷ 3 ∷ 4 ∷ 5 ∷ [])
-    ≡ Erase 8 ∷ Program 12 5 ∷ Program 8 1 ∷ Program 9 2 ∷ Program 10 3 ∷ Program 11 4 ∷ [])
-    × (rewrite-pair 0 8 (1 ∷ []) ≡ Erase 8 ∷ Program 8 1 ∷ Erase 0 ∷ Program 0 1 ∷ [])
+    ≡ (Program 8 0 ∷ Program 9 0 ∷ Program 10 0 ∷ Program 11 0 ∷ [])
+    ++ (Erase 8 ∷ Program 12 5 ∷ Program 8 1 ∷ Program 9 2 ∷ Program 10 3 ∷ Program 11 4 ∷ []))
+    × (rewrite-pair 0 8 (1 ∷ []) ≡ rewrite 8 (1 ∷ []) ++ rewrite 0 (1 ∷ []))
 unfolding rules table
 step-examples = (refl, refl, refl, refl, refl, refl)
 
@@ -207,7 +208,7 @@ rename-and-repair-examples :
     × (map name-allowed ([] ∷ (80 ∷ []) ∷ (80 ∷ 0 ∷ []) ∷ spt0-name ∷ []) ≡ false ∷ true ∷ false ∷ false ∷ [])
     × (map (λ row. name-free (entries table) row (80 ∷ 50 ∷ [])) (6 ∷ 7 ∷ []) ≡ false ∷ true ∷ [])
     × (rename-steps 0x4000 0x5000 table 1 (80 ∷ 50 ∷ []) ≡ [])
-    × (length (rename-steps 0x4000 0x5000 table 1 (65 ∷ [])) ≡ 8194)
+    × (length (rename-steps 0x4000 0x5000 table 1 (65 ∷ [])) ≡ 8202)
     × (repair-pair begins-with-1 (1 ∷ 1 ∷ []) 0 1 0 ≡ rewrite 1 (1 ∷ 1 ∷ []))
     × (repair-pair begins-with-1 (2 ∷ 1 ∷ []) 0 1 1 ≡ rewrite 0 (1 ∷ []))
     × (repair-pair begins-with-1 (1 ∷ []) 0 0 0 ≡ [])
@@ -226,12 +227,13 @@ run-and-cut-examples :
     × (may-run 1 1 (at (7 ∷ []) (Program 0 3 ∷ Program 1 3 ∷ [])) ≡ refused (numbered 12))
     × (may-run 2 1 (at (7 ∷ []) (Erase 0 ∷ [])) ≡ refused (numbered 12))
     × (may-run 1 1 (at (7 ∷ []) (Erase 0 ∷ [])) ≡ given (at (7 ∷ []) (Erase 0 ∷ [])))
-    × (half-done 3 2 (Erase 0 ∷ []) (1 ∷ 2 ∷ 3 ∷ []) ≡ 0xFF ∷ 0xFF ∷ 3 ∷ [])
-    × (half-done 3 9 (Erase 0 ∷ []) (1 ∷ 2 ∷ 3 ∷ 4 ∷ []) ≡ 0xFF ∷ 0xFF ∷ 0xFF ∷ 4 ∷ [])
-    × (half-done 3 2 (Program 0 0 ∷ []) (1 ∷ 2 ∷ 3 ∷ []) ≡ 1 ∷ 2 ∷ 3 ∷ [])
-    × (dropped 3 0 (at (1 ∷ 2 ∷ 3 ∷ []) (Erase 0 ∷ [])) ≡ 1 ∷ 2 ∷ 3 ∷ [])
+    × (wiped-where (true ∷ false ∷ true ∷ []) (1 ∷ 2 ∷ 3 ∷ 4 ∷ []) ≡ 0xFF ∷ 2 ∷ 0xFF ∷ 4 ∷ [])
+    × (half-done 3 (false ∷ true ∷ []) (Erase 1 ∷ []) (1 ∷ 2 ∷ 3 ∷ 4 ∷ []) ≡ 1 ∷ 2 ∷ 0xFF ∷ 4 ∷ [])
+    × (half-done 3 (replicate 9 true) (Erase 0 ∷ []) (1 ∷ 2 ∷ 3 ∷ 4 ∷ []) ≡ 0xFF ∷ 0xFF ∷ 0xFF ∷ 4 ∷ [])
+    × (half-done 3 (replicate 2 true) (Program 0 0 ∷ []) (1 ∷ 2 ∷ 3 ∷ []) ≡ 1 ∷ 2 ∷ 3 ∷ [])
+    × (dropped 3 [] (at (1 ∷ 2 ∷ 3 ∷ []) (Erase 0 ∷ [])) ≡ 1 ∷ 2 ∷ 3 ∷ [])
 unfolding rules table
-run-and-cut-examples = (refl, refl, refl, refl, refl, refl, refl, refl, refl, refl, refl, refl, refl)
+run-and-cut-examples = (refl, refl, refl, refl, refl, refl, refl, refl, refl, refl, refl, refl, refl, refl)
 
 -- ---- the book
 

@@ -30,7 +30,7 @@ use Rattle.rules.proofs.Claim.Theorem.{demand-3}
 -- ---- the list
 
 abbrev item : Command → List ℕ → Item the-commands
-item c budgets = record { command = c; budgets = budgets; wiped = 0 }
+item c budgets = record { command = c; budgets = budgets; wiped = [] }
 
 -- enable 1 is refused 14, though slot 1 is first already; disable 2 is refused 8; enable 2 is cut after 15 steps; repair
 -- finishes in two runs, and a third is refused 11; enable 2 finishes under budgets 0 and 16
@@ -39,7 +39,7 @@ a-list =
     item (enable 1) []
     ∷ item (disable 2) []
     ∷ item (enable 2) (7 ∷ 8 ∷ [])
-    ∷ item repair (4000 ∷ 97 ∷ 5 ∷ [])
+    ∷ item repair (4000 ∷ 101 ∷ 5 ∷ [])
     ∷ item (enable 2) (0 ∷ 16 ∷ [])
     ∷ []
 

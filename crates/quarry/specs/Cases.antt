@@ -1,5 +1,5 @@
--- The cases of the quarry image as tables of rows: `starred` has those that document 01 marks and two of document 02, No. 2,
--- `unstarred` some others. Assumes nothing.
+-- The cases of the quarry image as tables of rows: `starred` has those that document 01 marks and those of document 02's
+-- requests, `unstarred` some others. Counts are those of No. 3. Assumes nothing.
 use mathlib.Core.Bool.{Bool, true, false, _&&_}
 use mathlib.Core.List.{List, [], _∷_, _++_}
 use Prim.Native.Nat.{ℕ, _+_, _*_, _-_}
@@ -22,11 +22,11 @@ use Rattle.rules.specs.declared.Step.the-variants.{Program, Erase}
 pub data Expected : Type 0 where
   refusal step-count place : ℕ → Expected
 
--- how far the job goes: not at all, to its end, n steps, or to the inside of step n, an erase that gets k bytes far
+-- how far the job goes: not at all, to its end, n steps, or to the inside of step n, an erase that wiped some bytes
 pub data Ending : Type 0 where
   not-run to-the-end : Ending
   cut-after : ℕ → Ending
-  cut-inside : ℕ → ℕ → Ending
+  cut-inside : ℕ → List Bool → Ending
 
 -- a command started, with what is expected of it, and its job run; the boot order expected; the value expected at a place
 -- of the pointer block at an address
@@ -88,8 +88,8 @@ module _ (carried-out : ℕ → List Step → List ℕ → List ℕ) where
   ended not-run ss img = img
   ended to-the-end ss img = carried-out (quarry-setting .granule) ss img
   ended (cut-after n) ss img = carried-out (quarry-setting .granule) (take n ss) img
-  ended (cut-inside n k) ss img =
-      half-done (quarry-setting .granule) k (drop (n - 1) ss)
+  ended (cut-inside n wiped) ss img =
+      half-done (quarry-setting .granule) wiped (drop (n - 1) ss)
       (carried-out (quarry-setting .granule) (take (n - 1) ss) img)
 
   -- the image that a command leaves
@@ -151,7 +151,7 @@ case-5 = record {
       ∷ [];
 }
 
--- 6: "Case 2 cut after 15 steps: place 2 of CPB0 holds 0xFF0000000000A000; order 1, 0. Repair takes 4,097 steps; then
+-- 6: "Case 2 cut after 15 steps: place 2 of CPB0 holds 0xFF0000000000A000; order 1, 0. Repair takes 4,101 steps; then
 -- enable 2 takes place 3."
 unfoldable pub case-6 : Row
 case-6 = record {
@@ -160,7 +160,7 @@ case-6 = record {
       command (enable 2) (step-count 16 ∷ []) (cut-after 15)
       ∷ place-holds quarry-cpb0 2 0xFF0000000000A000
       ∷ order-is (1 ∷ 0 ∷ [])
-      ∷ command repair (step-count 4097 ∷ []) to-the-end
+      ∷ command repair (step-count 4101 ∷ []) to-the-end
       ∷ command (enable 2) (place 3 ∷ []) not-run
       ∷ [];
 }
@@ -172,16 +172,16 @@ case-7 = record {
   script = command (enable 2) (place 507 ∷ step-count 16 ∷ []) not-run ∷ [];
 }
 
--- 7: "Highest 507: 8,194 steps"
+-- 7: "Highest 507: 8,202 steps"
 unfoldable pub case-7-full : Row
-case-7-full = record { flash = quarry-used-to 507; script = command (enable 2) (step-count 8194 ∷ []) not-run ∷ [] }
+case-7-full = record { flash = quarry-used-to 507; script = command (enable 2) (step-count 8202 ∷ []) not-run ∷ [] }
 
--- 9: "disabling slot 0 rewrites, 8,194 steps; disabling slot 1 instead is in place, 16 steps"
+-- 9: "disabling slot 0 rewrites, 8,202 steps; disabling slot 1 instead is in place, 16 steps"
 unfoldable pub case-9 : Row
 case-9 = record {
   flash = quarry-moved;
   script =
-      command (disable 0) (step-count 8194 ∷ []) not-run
+      command (disable 0) (step-count 8202 ∷ []) not-run
       ∷ command (disable 1) (step-count 16 ∷ []) not-run
       ∷ [];
 }
@@ -221,18 +221,29 @@ starred =
 
 -- ---- cases 8 and 10, as far as they are about an image of this size
 
--- 8: "That rewrite cut after 4,097 steps: old order"
+-- 8: that rewrite "cut after 4,101 steps": old order
 unfoldable pub case-8 : Row
 case-8 = record {
   flash = quarry-used-to 507;
-  script = command (enable 2) (step-count 8194 ∷ []) (cut-after 4097) ∷ order-is (1 ∷ 0 ∷ []) ∷ [];
+  script = command (enable 2) (step-count 8202 ∷ []) (cut-after 4101) ∷ order-is (1 ∷ 0 ∷ []) ∷ [];
 }
 
--- 8: "inside step 4,098 with k = 1: new order"
+-- 8: "step 4,102 is the first that shows the new order"
+unfoldable pub case-8-shown : Row
+case-8-shown = record {
+  flash = quarry-used-to 507;
+  script = command (enable 2) (step-count 8202 ∷ []) (cut-after 4102) ∷ order-is (2 ∷ 1 ∷ 0 ∷ []) ∷ [];
+}
+
+-- the erase of CPB0, step 4,106, wiped place 0 alone: still the new order
 unfoldable pub case-8-inside : Row
 case-8-inside = record {
   flash = quarry-used-to 507;
-  script = command (enable 2) (step-count 8194 ∷ []) (cut-inside 4098 1) ∷ order-is (2 ∷ 1 ∷ 0 ∷ []) ∷ [];
+  script =
+      command (enable 2) (step-count 8202 ∷ []) (cut-inside 4106 (replicate 0x20 false ++ replicate 8 true))
+      ∷ place-holds quarry-cpb0 0 0xFFFFFFFFFFFFFFFF
+      ∷ order-is (2 ∷ 1 ∷ 0 ∷ [])
+      ∷ [];
 }
 
 -- 10: "Image of 0 bytes: refused 1."
@@ -240,4 +251,4 @@ unfoldable pub case-10 : Row
 case-10 = record { flash = []; script = command repair (refusal 1 ∷ []) not-run ∷ [] }
 
 unfoldable pub unstarred : List Row
-unstarred = case-8 ∷ case-8-inside ∷ case-10 ∷ []
+unstarred = case-8 ∷ case-8-shown ∷ case-8-inside ∷ case-10 ∷ []

@@ -1,11 +1,9 @@
 // Runs the cases of document 01, and of document 02, No. 2, on the images under data/ and prints what happens.
 use commands::Command;
-use jobs::Next;
 use libc::STDOUT_FILENO;
 use rules::PlaceNo;
 use rules::Setting;
 use rules::SlotNo;
-use rules::Step;
 ghost use mathlib.Core.Path.{_≡_};
 ghost use lib.ListN.{length};
 
@@ -48,25 +46,13 @@ fn finish_rename(image: &mut [u8], name: &[u8]) {
     printing::print_done(bench::run_begun(image, begun));
 }
 
-fn wipe_next(image: &mut [u8], next: Next, k: usize) {
-    match next {
-        Next::Finished => {}
-        Next::Is(step) => match step {
-            Step::Program(_, _) => {}
-            Step::Erase(at) => bench::wipe(image, at, k),
-        },
-    }
-}
-
-// A command cut after some steps, and so many bytes into the erase that may come next.
-fn cut(image: &mut [u8], command: Command, steps: usize, k: usize) {
+// A command cut after some steps.
+fn cut(image: &mut [u8], command: Command, steps: usize) {
     let begun = bench::begin(image, quarry(), command);
     let job = begun.job;
-    let ran = jobs::run(job, image, steps);
-    let left = ran.job;
-    wipe_next(image, jobs::next_step(left), k);
+    jobs::run(job, image, steps);
     printing::print_command(command);
-    printing::print_cut(steps, k);
+    printing::print_cut(steps);
 }
 
 fn print_order(image: &[u8]) {
@@ -109,15 +95,15 @@ fn empty_slots(image: &mut [u8]) {
 }
 
 fn cut_then_repaired(image: &mut [u8]) {
-    cut(image, Command::Enable(SlotNo(2)), 15, 0);
+    cut(image, Command::Enable(SlotNo(2)), 15);
     print_place(image, PlaceNo(2));
     print_order(image);
     finish(image, Command::Repair);
     enable_third(image, PlaceNo(3));
 }
 
-fn rewrite_cut(image: &mut [u8], k: usize) {
-    cut(image, Command::Enable(SlotNo(2)), 4097, k);
+fn rewrite_cut(image: &mut [u8], steps: usize) {
+    cut(image, Command::Enable(SlotNo(2)), steps);
     print_order(image);
 }
 
@@ -150,7 +136,7 @@ fn run_case(case: Case, image: &mut [u8]) {
         Case::RefusedSlots => refused_slots(image),
         Case::EmptySlots => empty_slots(image),
         Case::CutThenRepaired => cut_then_repaired(image),
-        Case::RewriteCut(k) => rewrite_cut(image, k),
+        Case::RewriteCut(steps) => rewrite_cut(image, steps),
         Case::Disable(slot) => finish(image, Command::Disable(slot)),
         Case::Names => names(image),
         Case::OrderOnly => print_order(image),
@@ -188,14 +174,14 @@ fn main() {
         Case::EnableThird(PlaceNo(507)),
     );
     on_image(
-        b"case 8, after 4,097 steps\n",
+        b"case 8, after 4,101 steps\n",
         b"highest_507.img",
-        Case::RewriteCut(0),
+        Case::RewriteCut(4101),
     );
     on_image(
-        b"case 8, inside step 4,098\n",
+        b"case 8, after 4,102 steps\n",
         b"highest_507.img",
-        Case::RewriteCut(1),
+        Case::RewriteCut(4102),
     );
     on_image(b"case 9, slot 0\n", b"moved.img", Case::Disable(SlotNo(0)));
     on_image(b"case 9, slot 1\n", b"moved.img", Case::Disable(SlotNo(1)));

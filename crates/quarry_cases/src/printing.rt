@@ -43,12 +43,10 @@ fn print_refusal(why: Refusal) {
     io::write_all(STDOUT_FILENO, b"\n");
 }
 
-pub fn print_cut(steps: usize, k: usize) {
+pub fn print_cut(steps: usize) {
     io::write_all(STDOUT_FILENO, b"cut after ");
     io::print_decimal(STDOUT_FILENO, steps as u64);
-    io::write_all(STDOUT_FILENO, b" steps, ");
-    io::print_decimal(STDOUT_FILENO, k as u64);
-    io::write_all(STDOUT_FILENO, b" bytes into the next\n");
+    io::write_all(STDOUT_FILENO, b" steps\n");
 }
 
 // The boot order, or the refusal.

@@ -91,7 +91,7 @@ fn do_line(desk: Desk, room: &mut [u8], line: &[u8]) -> Desk {
             desk::error(desk)
         }
         Line::Command(command) => starts::start(desk, room, command, line),
-        Line::Steps(asked_steps) => steps::carry_out(desk, room, asked_steps),
+        Line::Steps(asked_steps) => steps::carry_out(desk, room, asked_steps, line),
         Line::Error => desk::error(desk),
     }
 }

@@ -1,4 +1,5 @@
 // Lines that do steps of the current job.
+use super::bounds::Part;
 use super::bounds::least;
 use super::bounds::part_of;
 use super::changes;
@@ -11,8 +12,9 @@ use jobs::Next;
 use jobs::Ran;
 use rules::Step;
 use script::Steps;
+use script::words;
 
-pub fn carry_out(desk: Desk, room: &mut [u8], asked: Steps) -> Desk {
+pub fn carry_out(desk: Desk, room: &mut [u8], asked: Steps, line: &[u8]) -> Desk {
     if !desk.busy {
         return desk::error(desk);
     }
@@ -20,6 +22,7 @@ pub fn carry_out(desk: Desk, room: &mut [u8], asked: Steps) -> Desk {
     match asked {
         Steps::Run(budget) => run(desk, &mut room[0..length], budget),
         Steps::Cut(n, bytes) => cut(desk, &mut room[0..length], n, bytes),
+        Steps::Torn(n, ranges) => torn(desk, &mut room[0..length], n, ranges, line),
     }
 }
 
@@ -35,48 +38,100 @@ fn run(desk: Desk, image: &mut [u8], budget: usize) -> Desk {
     desk::with_job(desk, after)
 }
 
-// A run that is refused leaves the image as it was, and the job is dropped all the same.
+// ---- cuts
+
+// With the lowest bytes of an erase that comes next done.
 fn cut(desk: Desk, image: &mut [u8], n: usize, bytes: usize) -> Desk {
     let job = desk.job;
     if jobs::remaining(job) <= n {
         return desk::error(desk);
     }
-    tear_after(jobs::run(job, image, n), image, bytes);
+    let part = erase_after(jobs::run(job, image, n), image.len());
+    let to = least(part.to, image.len());
+    let from = least(part.from, to);
+    wipe(&mut image[from..to], 0, bytes);
+    dropped(desk)
+}
+
+// With some ranges of it done.
+fn torn(desk: Desk, image: &mut [u8], n: usize, ranges: usize, line: &[u8]) -> Desk {
+    let job = desk.job;
+    if jobs::remaining(job) <= n {
+        return desk::error(desk);
+    }
+    let part = erase_after(jobs::run(job, image, n), image.len());
+    let to = least(part.to, image.len());
+    let from = least(part.from, to);
+    wipe_ranges(&mut image[from..to], ranges, line);
+    dropped(desk)
+}
+
+fn dropped(desk: Desk) -> Desk {
     printing::print_word(b"cut");
     desk::without_job(desk)
 }
 
-fn tear_after(ran: Ran, image: &mut [u8], bytes: usize) {
+// The granule that comes next to be erased, after a run; else nothing. A run that is refused leaves the image as it was,
+// and the job is dropped all the same.
+fn erase_after(ran: Ran, length: usize) -> Part {
     let did = ran.did;
     match did {
-        Did::Refused(_) => {}
+        Did::Refused(_) => part_of(length, 0, 0),
         Did::Steps(_) => {
             let job = ran.job;
-            tear(job, image, bytes);
+            erase_next(job, length)
         }
     }
 }
 
-// If the next step is an erase, does it for the lowest bytes only.
-fn tear(job: Job, image: &mut [u8], bytes: usize) {
+fn erase_next(job: Job, length: usize) -> Part {
     let plan = job.plan;
     let next = jobs::next_step(job);
     match next {
-        Next::Finished => {}
-        Next::Is(step) => tear_step(step, plan.granule, image, bytes),
+        Next::Finished => part_of(length, 0, 0),
+        Next::Is(step) => match step {
+            Step::Program(_, _) => part_of(length, 0, 0),
+            Step::Erase(at) => part_of(length, at, plan.granule),
+        },
     }
 }
 
-fn tear_step(step: Step, granule: usize, image: &mut [u8], bytes: usize) {
-    match step {
-        Step::Program(_, _) => {}
-        Step::Erase(at) => erase_lowest(image, at, least(bytes, granule)),
+// What passes the granule's end is ignored.
+fn wipe(granule: &mut [u8], at: usize, n: usize) {
+    let from = least(at, granule.len());
+    let to = from + least(n, granule.len() - from);
+    changes::fill(&mut granule[from..to], changes::ERASED);
+}
+
+// The ranges are the line's last words, in pairs. Each only sets bytes to 0xFF, so the last may come first.
+fn wipe_ranges(granule: &mut [u8], ranges: usize, line: &[u8]) {
+    let mut end = line.len();
+    let mut i = 0;
+    while i < ranges {
+        let size = last_of(line, end);
+        let at = last_of(line, size.before);
+        end = at.before;
+        wipe(granule, at.number, size.number);
+        i += 1;
     }
 }
 
-fn erase_lowest(image: &mut [u8], at: usize, n: usize) {
-    let part = part_of(image.len(), at, n);
-    let from = part.from;
-    let to = part.to;
-    changes::fill(&mut image[from..to], changes::ERASED);
+// The last number of a part of a line, and how many bytes stand before it and its space.
+struct Last {
+    number: usize,
+    before: usize,
+}
+
+fn last_of(line: &[u8], end: usize) -> Last {
+    let n = least(end, line.len());
+    let part = &line[0..n];
+    let from = words::last_word_start(part);
+    let mut last = Last {
+        number: script::last_number(part),
+        before: 0,
+    };
+    if 0 < from {
+        last.before = from - 1;
+    }
+    last
 }

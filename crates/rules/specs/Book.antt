@@ -65,11 +65,11 @@ the-commands = record { Command = Command; start = start; changed = changed; pro
 
 -- ---- items
 
--- a command with its arguments, the budgets of the runs of its job, and how far a cut inside an erase got
+-- a command with its arguments, the budgets of the runs of its job, and which bytes a cut inside an erase had wiped
 pub record Item (C : CommandSet) : Type 0 where
   pub command : C .Command
   pub budgets : List ℕ
-  pub wiped : ℕ
+  pub wiped : List Bool
 
 pub data Outcome : Type 0 where
   was-refused finished cut : Outcome

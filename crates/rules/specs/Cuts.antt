@@ -1,12 +1,13 @@
 -- Running a job under budgets, refusals 11 and 12, and a job that is cut. Assumes nothing.
-use mathlib.Core.Bool.{Bool, _&&_}
-use mathlib.Core.List.{List, [], _∷_}
-use Prim.Native.Nat.{ℕ, _+_, min}
+use mathlib.Core.Bool.{Bool, cond, _&&_}
+use mathlib.Core.List.{List, [], _∷_, _++_}
+use Prim.Native.Nat.{ℕ, _+_}
 use lib.Dec.{eqb, leb, ltb}
 use lib.ListN.{take, drop, length}
 use Rattle.rules.specs.Lists.{all}
+use Rattle.rules.specs.Bytes.{erased-byte}
 use Rattle.rules.specs.Answers.{Answer, given, unless}
-use Rattle.rules.specs.Steps.{steps, wiped}
+use Rattle.rules.specs.Steps.{steps}
 use Rattle.rules.specs.declared.Step.{Step}
 use Rattle.rules.specs.declared.Step.the-variants.{Program, Erase}
 
@@ -40,12 +41,19 @@ unfoldable pub runs : ℕ → List ℕ → Progress → Progress
 runs g [] p = p
 runs g (n ∷ ns) p = runs g ns (run g n p)
 
--- what a power failure leaves of the next step: of an erase its granule's lowest k bytes 0xFF, the rest old
-unfoldable pub half-done : ℕ → ℕ → List Step → List ℕ → List ℕ
-half-done g k [] img = img
-half-done g k (Program a v ∷ ss) img = img
-half-done g k (Erase a ∷ ss) img = wiped a (min k g) img
+-- some bytes, each of them 0xFF or old by a choice for it; a byte for which there is none is old
+unfoldable pub wiped-where : List Bool → List ℕ → List ℕ
+wiped-where [] bs = bs
+wiped-where (w ∷ ws) [] = []
+wiped-where (w ∷ ws) (b ∷ bs) = cond w erased-byte b ∷ wiped-where ws bs
+
+-- what a power failure leaves of the next step: of an erase "each byte of the granule either old or 0xFF" (document
+-- 02, No. 3), by a choice for each; choices past the granule are ignored
+unfoldable pub half-done : ℕ → List Bool → List Step → List ℕ → List ℕ
+half-done g ws [] img = img
+half-done g ws (Program a v ∷ ss) img = img
+half-done g ws (Erase a ∷ ss) img = take a img ++ wiped-where (take g ws) (drop a img)
 
 -- the flash when the job is dropped
-unfoldable pub dropped : ℕ → ℕ → Progress → List ℕ
-dropped g k p = half-done g k (p .left) (p .image)
+unfoldable pub dropped : ℕ → List Bool → Progress → List ℕ
+dropped g ws p = half-done g ws (p .left) (p .image)

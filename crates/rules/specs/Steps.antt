@@ -11,7 +11,7 @@ use Rattle.rules.specs.declared.Step.the-variants.{Program, Erase}
 unfoldable pub programmed : ℕ → ℕ → List ℕ → List ℕ
 programmed a v img = set img a (bitAnd (getD img a 0) v)
 
--- n bytes 0xFF from an address on: an erase, whole or half done
+-- n bytes 0xFF from an address on: an erase
 unfoldable pub wiped : ℕ → ℕ → List ℕ → List ℕ
 wiped a n img = take a img ++ (replicate n erased-byte ++ drop (a + n) img)
 
@@ -30,9 +30,10 @@ unfoldable pub programs : ℕ → List ℕ → List Step
 programs a [] = []
 programs a (b ∷ bs) = Program a b ∷ programs (suc a) bs
 
--- "erase its first granule, program bytes 4 to 4,095 upward, then 0 to 3" (document 01's "rewriting")
+-- document 01's "rewriting" with document 02's No. 3: "first programs bytes 0 to 3 to zero, in that order"; "erase its
+-- first granule, program bytes 4 to 4,095 upward, then 0 to 3"
 unfoldable pub rewrite : ℕ → List ℕ → List Step
-rewrite a b = Erase a ∷ (programs (a + 4) (drop 4 b) ++ programs a (take 4 b))
+rewrite a b = programs a (replicate 4 0) ++ (Erase a ∷ (programs (a + 4) (drop 4 b) ++ programs a (take 4 b)))
 
 -- the same block into both copies of a pair, copy 1 and then copy 0
 unfoldable pub rewrite-pair : ℕ → ℕ → List ℕ → List Step

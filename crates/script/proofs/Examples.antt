@@ -10,6 +10,7 @@ use Rattle.script.specs.Numbers.{digit, number-from, number, numbers, nu
 use Rattle.script.specs.Lines.{
   takes,
   takes-slot,
+  takes-ranges,
   by-forms,
   change-forms,
   question-forms,
@@ -23,7 +24,7 @@ use Rattle.script.specs.declared.Line.the-variants.{Nothing, Change, Que
 use Rattle.script.specs.declared.Change.the-variants.{Image, Put}
 use Rattle.script.specs.declared.Question.the-variants.{Order}
 use Rattle.script.specs.declared.Command.the-variants.{Rename, RenameToNothing}
-use Rattle.script.specs.declared.Steps.the-variants.{Cut}
+use Rattle.script.specs.declared.Steps.the-variants.{Cut, Torn}
 
 abbrev pub lines : List String
 lines =
@@ -41,6 +42,10 @@ lines =
     ∷ "cut  5"
     ∷ "cut 5 100"
     ∷ "cut 5 100 "
+    ∷ "torn 5"
+    ∷ "torn 5 0 4"
+    ∷ "torn 5 0 4 8"
+    ∷ "torn 5 0 4 8 16"
     ∷ []
 
 pub lines-do : map (λ (line : String). line-of (ascii line)) lines
@@ -58,6 +63,10 @@ pub lines-do : map (λ (line : String). line-of (ascii line)) lines
     ∷ Error
     ∷ Steps (Cut 5 100)
     ∷ Error
+    ∷ Error
+    ∷ Steps (Torn 5 1)
+    ∷ Error
+    ∷ Steps (Torn 5 2)
     ∷ []
-unfolding same all before later-words hex-value is-bytes digit number-from number numbers numbers-before-bytes takes takes-slot by-forms change-forms question-forms command-forms steps-forms said line-of
+unfolding same all before later-words hex-value is-bytes digit number-from number numbers numbers-before-bytes takes takes-slot takes-ranges by-forms change-forms question-forms command-forms steps-forms said line-of
 lines-do = refl

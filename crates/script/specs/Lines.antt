@@ -2,7 +2,7 @@
 -- Assumes nothing.
 use mathlib.Core.Bool.{Bool, cond, _&&_}
 use mathlib.Core.List.{List, [], _∷_}
-use Prim.Native.Nat.{ℕ}
+use Prim.Native.Nat.{ℕ, _/_, _%_}
 use Prim.Native.String.{String}
 use lib.Dec.{eqb, leb}
 use Rattle.rules.specs.Lists.{same}
@@ -16,7 +16,7 @@ use Rattle.script.specs.declared.Line.the-variants.{Nothing, Change, Que
 use Rattle.script.specs.declared.Change.the-variants.{Image, Length, Setting, Put, Copy}
 use Rattle.script.specs.declared.Question.the-variants.{Order, Slot, Peek, Sum, Dumps}
 use Rattle.script.specs.declared.Command.the-variants.{Enable, Disable, Rename, RenameToNothing, Repair}
-use Rattle.script.specs.declared.Steps.the-variants.{Run, Cut}
+use Rattle.script.specs.declared.Steps.the-variants.{Run, Cut, Torn}
 
 -- ---- tests
 
@@ -27,6 +27,10 @@ takes verb name row n = same verb name && row .numeric && eqb (row .count) n
 -- one number that is a slot's: "slots at most 2^32 - 1"
 unfoldable pub takes-slot : List ℕ → List ℕ → Row → Bool
 takes-slot verb name row = takes verb name row 1 && leb (row .first) 4294967295
+
+-- a number, and then pairs of numbers, at least one
+unfoldable pub takes-ranges : List ℕ → List ℕ → Row → Bool
+takes-ranges verb name row = same verb name && row .numeric && leb 3 (row .count) && eqb (row .count % 2) 1
 
 abbrev pub slot-of : Row → SlotNo
 slot-of row = record { 0 = row .first }
@@ -77,6 +81,7 @@ module _ (verb : List ℕ) (row : Row) where
       (takes verb (ascii "run") row 1, Steps (Run (row .first)))
       ∷ (takes verb (ascii "cut") row 1, Steps (Cut (row .first) 0))
       ∷ (takes verb (ascii "cut") row 2, Steps (Cut (row .first) (row .second)))
+      ∷ (takes-ranges verb (ascii "torn") row, Steps (Torn (row .first) (row .count / 2)))
       ∷ []
 
   -- "anything else" is an error

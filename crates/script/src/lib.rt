@@ -9,6 +9,7 @@ pub mod sum; // a sum of bytes
 use rules::SlotNo;
 ghost use mathlib.Core.Path.{_≡_};
 ghost use Rattle.script.specs.Words.{last-word};
+ghost use Rattle.script.specs.Numbers.{value};
 ghost use Rattle.script.specs.Lines.{line-of};
 
 // What a line does. A number is as it is written; whether it suits the image is judged elsewhere.
@@ -48,10 +49,11 @@ pub enum Command {
     Repair,
 }
 
-// `run`, `cut`.
+// `run`, `cut`, `torn` with the number of ranges, which are the line's last words.
 pub enum Steps {
     Run(usize),
     Cut(usize, usize),
+    Torn(usize, usize),
 }
 
 pub fn line_of(line: &[u8]) -> Line
@@ -80,4 +82,11 @@ pub fn last_word(line: &[u8]) -> &[u8]
 {
     let from = words::last_word_start(line);
     &line[from..]
+}
+
+// The number that it is, or 0.
+pub fn last_number(line: &[u8]) -> usize
+    ensures { λ r. ⌜ r ≡ value (last-word (now (line .entry))) ⌝ }
+{
+    numbers::value_of(last_word(line))
 }

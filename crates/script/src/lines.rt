@@ -9,7 +9,7 @@ use rules::SlotNo;
 ghost use mathlib.Core.Path.{_≡_};
 ghost use mathlib.Core.Bool.{cond};
 ghost use Prim.Native.Nat.{_%_};
-ghost use Rattle.script.specs.Lines.{takes, takes-slot, by-forms, change-forms, question-forms, command-forms, steps-forms};
+ghost use Rattle.script.specs.Lines.{takes, takes-slot, takes-ranges, by-forms, change-forms, question-forms, command-forms, steps-forms};
 
 // The row of a bare `order`, and the longest row.
 const ROW_DEFAULT: usize = 127;
@@ -34,6 +34,13 @@ fn takes_slot(verb: &[u8], name: &[u8], row: Row) -> bool
     ensures { λ r. ⌜ r ≡ takes-slot (now (verb .entry)) (now (name .entry)) row ⌝ }
 {
     takes(verb, name, row, 1) & (row.first <= SLOT_MAX)
+}
+
+// A number, and then pairs of numbers, at least one.
+fn takes_ranges(verb: &[u8], name: &[u8], row: Row) -> bool
+    ensures { λ r. ⌜ r ≡ takes-ranges (now (verb .entry)) (now (name .entry)) row ⌝ }
+{
+    check::same(verb, name) & row.numeric & (3 <= row.count) & (row.count % 2 == 1)
 }
 
 fn form(fits: bool, does: Line, line: Line) -> Line
@@ -162,9 +169,14 @@ pub fn steps_line(verb: &[u8], row: Row, otherwise: Line) -> Line
         Line::Steps(Steps::Cut(row.first, 0)),
         line,
     );
-    form(
+    line = form(
         takes(verb, b"cut", row, 2),
         Line::Steps(Steps::Cut(row.first, row.second)),
+        line,
+    );
+    form(
+        takes_ranges(verb, b"torn", row),
+        Line::Steps(Steps::Torn(row.first, row.count / 2)),
         line,
     )
 }

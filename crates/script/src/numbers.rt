@@ -5,7 +5,7 @@ ghost use mathlib.Core.Path.{_≡_};
 ghost use mathlib.Core.List.{List, _∷_};
 ghost use Prim.Native.Nat.{ℕ, _≤_, _<_};
 ghost use Rattle.script.specs.Words.{later-words};
-ghost use Rattle.script.specs.Numbers.{digit, wrong, number, no-numbers, numbers, numbers-before-bytes};
+ghost use Rattle.script.specs.Numbers.{digit, wrong, number, value, no-numbers, numbers, numbers-before-bytes};
 
 // A word read as a number: whether it is one, and its value, or 0.
 struct Number {
@@ -68,6 +68,13 @@ fn number_of(word: &[u8]) -> Number
         i += 1;
     }
     Number { right: true, value }
+}
+
+pub fn value_of(word: &[u8]) -> usize
+    ensures { λ r. ⌜ r ≡ value (now (word .entry)) ⌝ }
+{
+    let number = number_of(word);
+    number.value
 }
 
 // The numbers of no word.

@@ -113,7 +113,7 @@ fn enables_and_disables() {
 #[test]
 fn renames() {
     let mut image = quarry();
-    assert_eq!(finish(SETTING.rename(&image, 0, &[b'n'; 15]).unwrap(), &mut image), 8194);
+    assert_eq!(finish(SETTING.rename(&image, 0, &[b'n'; 15]).unwrap(), &mut image), 8202);
     assert_eq!(SETTING.slot_name(&image, 0), Ok(vec![b'n'; 15]));
 }
 
@@ -126,8 +126,8 @@ fn repairs_after_a_cut() {
     assert_eq!(SETTING.order(&image), Ok(vec![1, 0]));
     assert_eq!(SETTING.enable(&image, 2).err(), Some(Refused(6)));
     let job = SETTING.repair(&image).unwrap();
-    assert_eq!(job.next_step(), Ok(Some(Step::Erase(0x7000))));
-    assert_eq!(finish(job, &mut image), 4097);
+    assert_eq!(job.next_step(), Ok(Some(Step::Program(0x7000, 0x00))));
+    assert_eq!(finish(job, &mut image), 4101);
     let job = SETTING.enable(&image, 2).unwrap();
     assert_eq!(job.next_step(), Ok(Some(Step::Program(0x7038, 0x00))));
     assert_eq!(finish(job, &mut image), 16);
@@ -153,7 +153,7 @@ fn counts_steps_done_by_a_driver() {
     assert!(flash == image);
     assert!(driven == job);
     assert_eq!(driven.advance(0), Ok(0));
-    assert_eq!(driven.advance(usize::MAX), Ok(3194));
+    assert_eq!(driven.advance(usize::MAX), Ok(3202));
     assert_eq!(driven.next_step(), Ok(None));
     assert_eq!(driven.advance(0), Err(Refused(11)));
 }

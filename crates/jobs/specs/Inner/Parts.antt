@@ -40,7 +40,7 @@ highest-address = 0x300000000
 
 unfoldable pub part-length : Kind → ℕ → ℕ
 part-length Nothing n = 0
-part-length Rewrite n = suc block-size
+part-length Rewrite n = 4 + suc block-size
 part-length Places n = 8 * n
 
 unfoldable pub listed-length : Plan → ℕ
@@ -49,7 +49,7 @@ listed-length p =
 
 -- no job has more steps
 abbrev pub most-steps : ℕ
-most-steps = 8194
+most-steps = 8202
 
 -- of a job with so many steps done, what was done can be counted
 unfoldable pub countable : ℕ → Did → Type 0
@@ -64,11 +64,12 @@ programs-inside len a n from = leb n from || leb (a + n) len
 unfoldable pub erase-inside : ℕ → ℕ → ℕ → ℕ → Bool
 erase-inside g len a from = leb 1 from || leb (a + g) len
 
--- a block rewritten: the erase, the bytes after the magic, the magic
+-- a block rewritten: zeros over the magic, the erase, the bytes after the magic, the magic
 unfoldable pub rewrite-inside : ℕ → ℕ → ℕ → ℕ → Bool
 rewrite-inside g len a from =
-    erase-inside g len a from
-    && (programs-inside len (a + 4) rest-size (from - 1) && programs-inside len a 4 (from - 1 - rest-size))
+    programs-inside len a 4 from
+    && (erase-inside g len a (from - 4)
+    && (programs-inside len (a + 4) rest-size (from - 4 - 1) && programs-inside len a 4 (from - 4 - 1 - rest-size)))
 
 unfoldable pub places-inside : ℕ → ℕ → ℕ → ℕ → List ℕ → Bool
 places-inside len a offset from [] = true

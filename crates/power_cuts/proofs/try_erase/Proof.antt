@@ -12,14 +12,14 @@ Inv-loop flash work₀ s at old new count sum₀ i₀ work sum i = length work �
 abbrev μ-loop : tie.MeasureT-loop
 μ-loop flash work₀ s at old new count sum₀ i₀ work sum i = count - i
 
-erase-cuts-requires : tie.Need-erase-cuts-requires Inv-loop μ-loop
-erase-cuts-requires c κs = search needs
+count-requires : tie.Need-count-requires Inv-loop μ-loop
+count-requires c κs = search needs
 
 loop-holds : tie.Need-loop-holds Inv-loop μ-loop
 loop-holds c = refl
 
-wiped-bytes-requires : tie.Need-wiped-bytes-requires Inv-loop μ-loop
-wiped-bytes-requires c κs = search needs
+choice-of-requires : tie.Need-choice-of-requires Inv-loop μ-loop
+choice-of-requires c κs = search needs
 
 try-cut-requires : tie.Need-try-cut-requires Inv-loop μ-loop
 try-cut-requires c κs = search needs
@@ -45,9 +45,9 @@ try-erase-spec =
     (tie.spec
     Inv-loop
     μ-loop
-    erase-cuts-requires
+    count-requires
     loop-holds
-    wiped-bytes-requires
+    choice-of-requires
     try-cut-requires
     add-i
     loop-less

@@ -29,7 +29,7 @@ use Rattle.rules.proofs.Table.SlotStarts.{length-fits, SlotStarts, slot
 
 pub table-torn : (s : Setting) (len : ℕ) (t : List ℕ) → Torn t → table-stands s len t ≡ false
 unfolding table-stands header-right
-table-torn s len t torn = rw (torn-magic table-magic (λ m. omega arith) (omega arith) t torn)
+table-torn s len t torn = rw (torn-magic table-magic (record { not-erased = λ e. omega arith; not-zero = λ e. omega arith; highest-not-erased = omega arith }) t torn)
 
 pub granule-holds-block : (g : ℕ) → granule-right g ≡ true → block-size ≤ g
 unfolding granule-right

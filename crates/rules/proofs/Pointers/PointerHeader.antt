@@ -47,7 +47,7 @@ places-fit p h =
 
 pub pointers-torn : (p : List ℕ) → Torn p → pointers-stand p ≡ false
 unfolding pointers-stand
-pointers-torn p t = rw (torn-magic pointers-magic (λ m. omega arith) (omega arith) p t)
+pointers-torn p t = rw (torn-magic pointers-magic (record { not-erased = λ e. omega arith; not-zero = λ e. omega arith; highest-not-erased = omega arith }) p t)
 
 -- two pointer blocks on granules of their own
 abbrev pub two-pointer-blocks : (g c0 c1 : ℕ)

@@ -1,6 +1,6 @@
 -- Only some addresses changed: what steps leave alone, at every cut, and blocks that they do not meet. Assumes nothing.
 use mathlib.Core.Path.{_≡_, sym, ap, _∙_, subst}
-use mathlib.Core.Logic.{inl, inr}
+use mathlib.Core.Logic.{_⊎_, inl, inr}
 use mathlib.Core.List.{List, [], _∷_, _++_}
 use Prim.Native.Nat.{ℕ, suc, _+_, _-_, _≤_, _<_}
 use native.Mathlib.Decide.{decLe, decLt}
@@ -11,8 +11,8 @@ use lib.Seq.{getD-take, getD-drop, getD-set-same, getD-set-other, set-out, take-
 use Rattle.rules.specs.Bytes.{Bytes, block, block-size, erased-byte}
 use Rattle.rules.specs.declared.Step.{Step}
 use Rattle.rules.specs.declared.Step.the-variants.{Program, Erase}
-use Rattle.rules.specs.Steps.{programmed, wiped, step, programs}
-use Rattle.rules.proofs.Steps.Wiping.{length-wiped, wiped-before, wiped-within, wiped-after}
+use Rattle.rules.specs.Steps.{programmed, step, programs}
+use Rattle.rules.proofs.Steps.Wiping.{HalfErased, erased-whole}
 use Rattle.rules.proofs.Steps.Cutting.{Cut}
 
 pub record Only (P : ℕ → Type 0) (img img′ : List ℕ) : Type 0 where
@@ -47,26 +47,16 @@ only-wider f h = record {
 
 -- ---- one step
 
-pub only-wiped : (a n m : ℕ) (img : List ℕ) → n ≤ m → a + n ≤ length img → Only (Range a m) img (wiped a n img)
-only-wiped a n m img hm h = record {
-  same-length = length-wiped a n img h;
-  elsewhere = λ i k. outside i k (decLt i a) (decLt i (a + n));
-  still-bytes = λ b i. byte i b (decLt i a) (decLt i (a + n));
+pub only-erased : (a n : ℕ) {img img′ : List ℕ} → HalfErased a n img img′ → Only (Range a n) img img′
+only-erased a n {img} {img′} e = record {
+  same-length = e .same-length;
+  elsewhere = e .elsewhere;
+  still-bytes = λ b i. byte i b (e .old-or-erased i);
 }
   where
-    outside : (i : ℕ) → (Range a m i → ⊥) → Dec (i < a) → Dec (i < a + n) → getD (wiped a n img) i 0 ≡ getD img i 0
-    outside i k (yes d) e = wiped-before a n img i h d
-    outside i k (no d) (yes e) = absurd (k (omega arith, omega arith))
-    outside i k (no d) (no e) = wiped-after a n img i h (omega arith)
-
-    byte : (i : ℕ) → Bytes img → Dec (i < a) → Dec (i < a + n) → getD (wiped a n img) i 0 < 256
-    byte i b (yes d) e = rw (wiped-before a n img i h d) (b i)
-    byte i b (no d) (yes e) =
-        let s : a + (i - a) ≡ i = omega arith in
-        let w : getD (wiped a n img) i 0 ≡ erased-byte =
-        subst (λ (k : ℕ). getD (wiped a n img) k 0 ≡ erased-byte) s (wiped-within a n img (i - a) h (omega arith)) in
-        omega arith
-    byte i b (no d) (no e) = rw (wiped-after a n img i h (omega arith)) (b i)
+    byte : (i : ℕ) → Bytes img → (getD img′ i 0 ≡ getD img i 0) ⊎ (getD img′ i 0 ≡ erased-byte) → getD img′ i 0 < 256
+    byte i b (inl old) = rw old (b i)
+    byte i b (inr erased) = omega arith
 
 pub only-programmed : (a v : ℕ) (img : List ℕ) → Only (λ i. i ≡ a) img (programmed a v img)
 unfolding programmed
@@ -127,7 +117,7 @@ only-step : (g : ℕ) (P : ℕ → Type 0) (s : Step) (img : List ℕ)
     → Only P img (step g s img)
 unfolding step
 only-step g P (Program a v) img h = only-wider (λ i e. subst P (sym e) h) (only-programmed a v img)
-only-step g P (Erase a) img h = only-wider (h .1) (only-wiped a g g img (omega arith) (h .0))
+only-step g P (Erase a) img h = only-wider (h .1) (only-erased a g (erased-whole a g img (h .0)))
 
 pub cut-only : (g : ℕ) (P : ℕ → Type 0) (ss : List Step) (img img′ : List ℕ)
     → StepsWithin g (length img) P ss
@@ -136,9 +126,7 @@ pub cut-only : (g : ℕ) (P : ℕ → Type 0) (ss : List Step) (img img′ : Lis
 cut-only g P [] img img′ h c = only-none img img′ c
 cut-only g P (s ∷ ss) img img′ h (inl c) = only-none img img′ c
 cut-only g P (Program a v ∷ ss) img img′ h (inr (inl c)) = absurd c
-cut-only g P (Erase a ∷ ss) img img′ h (inr (inl (k, l, e))) =
-    subst (λ (x : List ℕ). Only P img x) (sym e)
-    (only-wider (h .0 .1) (only-wiped a k g img l (omega (arith, h .0 .0))))
+cut-only g P (Erase a ∷ ss) img img′ h (inr (inl e)) = only-wider (h .0 .1) (only-erased a g e)
 cut-only g P (s ∷ ss) img img′ h (inr (inr c)) =
     let o = only-step g P s img (h .0) in
     let k = subst (λ (n : ℕ). StepsWithin g n P ss) (sym (o .same-length)) (h .1) in

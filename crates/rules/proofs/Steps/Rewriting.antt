@@ -8,6 +8,8 @@ use lib.Bits.{bitAnd, and-comm, and-mask}
 use lib.ListN.{length, take, drop, replicate}
 use lib.Seq.{length-take-le}
 use Rattle.rules.specs.Bytes.{Bytes, block-size, erased-byte}
+use Rattle.rules.specs.declared.Step.{Step}
+use Rattle.rules.specs.declared.Step.the-variants.{Erase}
 use Rattle.rules.specs.Steps.{step, steps, programs, rewrite, wiped}
 use Rattle.rules.proofs.Steps.Programming.{anded, anded-at, anded-with-none, steps-programs, steps-append}
 
@@ -52,15 +54,42 @@ four-last m (b0 ∷ (b1 ∷ (b2 ∷ (b3 ∷ bs)))) rest hb h k =
     (ap {B = List ℕ} (λ r. b0 ∷ (b1 ∷ (b2 ∷ (b3 ∷ r))))
     (sym (anded-with-none tail) ∙ over-erased m bs rest (λ i. hb (suc (suc (suc (suc i))))) (omega arith)))
 
-pub steps-rewrite : (g a : ℕ) (b img : List ℕ)
+-- ---- bytes programmed in what is then erased
+
+kept-before : (a : ℕ) (bs img : List ℕ) → take a (anded-at a bs img) ≡ take a img
+kept-before zero bs img = refl
+kept-before (suc a) bs [] = refl
+kept-before (suc a) bs (x ∷ img) = ap {B = List ℕ} (λ r. x ∷ r) (kept-before a bs img)
+
+kept-past : (n : ℕ) (bs img : List ℕ) → length bs ≤ n → drop n (anded img bs) ≡ drop n img
+kept-past n bs [] h = refl
+kept-past n [] (x ∷ img) h = refl
+kept-past zero (b ∷ bs) (x ∷ img) h = absurd (not-suc-le-zero h)
+kept-past (suc n) (b ∷ bs) (x ∷ img) h = kept-past n bs img (le-of-suc-le-suc h)
+
+kept-after : (a n : ℕ) (bs img : List ℕ) → length bs ≤ n → drop (a + n) (anded-at a bs img) ≡ drop (a + n) img
+kept-after zero n bs img h = rw (zero-add n) (kept-past n bs img h)
+kept-after (suc a) n bs [] h = refl
+kept-after (suc a) n bs (x ∷ img) h = rw (suc-add a n) (kept-after a n bs img h)
+
+programs-then-wiped : (g a n : ℕ) (bs img : List ℕ)
+    → length bs ≤ n
+    → wiped a n (steps g (programs a bs) img) ≡ wiped a n img
+unfolding wiped
+programs-then-wiped g a n bs img h = rw (steps-programs g a bs img, kept-before a bs img, kept-after a n bs img h)
+
+-- ---- the whole rewrite
+
+-- after the erase
+steps-on-erased : (g a : ℕ) (b img : List ℕ)
     → length b ≡ block-size
     → Bytes b
     → block-size ≤ g
     → a ≤ length img
-    → steps g (rewrite a b) img
+    → steps g (programs (a + 4) (drop 4 b) ++ programs a (take 4 b)) (wiped a g img)
     ≡ take a img ++ (b ++ (replicate (g - block-size) erased-byte ++ drop (a + g) img))
-unfolding steps step rewrite wiped
-steps-rewrite g a b img lb hb hg ha =
+unfolding wiped
+steps-on-erased g a b img lb hb hg ha =
     steps-append g (programs (a + 4) (drop 4 b)) (programs a (take 4 b)) (before ++ granule)
     ∙ steps-programs g a (take 4 b) (steps g (programs (a + 4) (drop 4 b)) (before ++ granule))
     ∙ ap (anded-at a (take 4 b)) but-four
@@ -98,3 +127,17 @@ steps-rewrite g a b img lb hb hg ha =
         ap (λ (n : ℕ). anded (anded-at 4 (drop 4 b) (replicate n erased-byte ++ after)) (take 4 b)) whole
         ∙ four-last (g - 4) b after hb (omega arith) (omega arith)
         ∙ ap (λ (n : ℕ). b ++ (replicate n erased-byte ++ after)) left
+
+pub steps-rewrite : (g a : ℕ) (b img : List ℕ)
+    → length b ≡ block-size
+    → Bytes b
+    → block-size ≤ g
+    → a ≤ length img
+    → steps g (rewrite a b) img
+    ≡ take a img ++ (b ++ (replicate (g - block-size) erased-byte ++ drop (a + g) img))
+unfolding steps step rewrite
+steps-rewrite g a b img lb hb hg ha =
+    let written : List Step = programs (a + 4) (drop 4 b) ++ programs a (take 4 b) in
+    steps-append g (programs a (replicate 4 0)) (Erase a ∷ written) img
+    ∙ ap (steps g written) (programs-then-wiped g a g (replicate 4 0) img (omega arith))
+    ∙ steps-on-erased g a b img lb hb hg ha

@@ -1,26 +1,94 @@
--- The bytes of an image with a range wiped: erased within, as before elsewhere. Assumes nothing.
-use mathlib.Core.Path.{_≡_, sym, ap, _∙_}
-use mathlib.Core.List.{List, _++_}
-use Prim.Native.Nat.{ℕ, _+_, _-_, _≤_, _<_}
-use native.Mathlib.Decide.{decLt}
+-- A granule erased, whole or half done: bytes of it are erased or as before, and every other byte is as before. Assumes
+-- nothing.
+use mathlib.Core.Path.{_≡_, refl, sym, ap, _∙_, subst}
+use mathlib.Core.Bool.{Bool, true, false}
+use mathlib.Core.Logic.{_⊎_, inl, inr}
+use mathlib.Core.List.{List, [], _∷_, _++_}
+use Prim.Native.Nat.{ℕ, zero, suc, _+_, _≤_, _<_, min}
+use native.Mathlib.Nat.{le-of-suc-le-suc, not-suc-le-zero}
 use native.Mathlib.Omega.{arith}
-use lib.ListN.{length, getD, take, drop, replicate, length-take, length-drop, length-append, length-replicate, getD-replicate, List·getD-append}
-use lib.Seq.{length-take-le, getD-take, getD-drop, getD-append-add, ext-getD}
+use lib.ListN.{length, getD, take, drop, replicate, length-take, length-drop, length-replicate, getD-replicate, List·getD-append}
+use lib.Seq.{length-take-le, getD-append-add, drop-drop}
 use Rattle.rules.specs.Bytes.{erased-byte}
+use Rattle.rules.specs.declared.Step.{Step}
+use Rattle.rules.specs.declared.Step.the-variants.{Erase}
 use Rattle.rules.specs.Steps.{wiped}
+use Rattle.rules.specs.Cuts.{wiped-where, half-done}
 
-pub length-wiped : (a n : ℕ) (img : List ℕ) → a + n ≤ length img → length (wiped a n img) ≡ length img
-unfolding wiped
-length-wiped a n img h = simp (length-append, length-take, length-replicate, length-drop) (omega arith)
+-- ---- half done
 
-pub wiped-before : (a n : ℕ) (img : List ℕ) (i : ℕ)
-    → a + n ≤ length img
-    → i < a
-    → getD (wiped a n img) i 0 ≡ getD img i 0
+-- n bytes at an address are each old or erased
+pub record HalfErased (a n : ℕ) (img img′ : List ℕ) : Type 0 where
+  pub same-length : length img′ ≡ length img
+  pub elsewhere : (i : ℕ) → ((a ≤ i) × (i < a + n) → ⊥) → getD img′ i 0 ≡ getD img i 0
+  pub old-or-erased : (i : ℕ) → (getD img′ i 0 ≡ getD img i 0) ⊎ (getD img′ i 0 ≡ erased-byte)
+
+-- an erase at an address, half done by these choices
+abbrev pub wiped-at : ℕ → List Bool → List ℕ → List ℕ
+wiped-at a ws img = take a img ++ wiped-where ws (drop a img)
+
+length-wiped-at : (a : ℕ) (ws : List Bool) (img : List ℕ) → length (wiped-at a ws img) ≡ length img
+unfolding wiped-where
+length-wiped-at zero [] img = refl
+length-wiped-at zero (w ∷ ws) [] = refl
+length-wiped-at zero (w ∷ ws) (x ∷ img) = ap suc (length-wiped-at zero ws img)
+length-wiped-at (suc a) [] [] = refl
+length-wiped-at (suc a) (w ∷ ws) [] = refl
+length-wiped-at (suc a) ws (x ∷ img) = ap suc (length-wiped-at a ws img)
+
+not-wiped-at : (a : ℕ) (ws : List Bool) (img : List ℕ) (i : ℕ)
+    → ((a ≤ i) × (i < a + length ws) → ⊥)
+    → getD (wiped-at a ws img) i 0 ≡ getD img i 0
+unfolding wiped-where
+not-wiped-at zero [] img i h = refl
+not-wiped-at zero (w ∷ ws) [] i h = refl
+not-wiped-at zero (w ∷ ws) (x ∷ img) zero h = absurd (h (omega arith, omega arith))
+not-wiped-at zero (w ∷ ws) (x ∷ img) (suc i) h = not-wiped-at zero ws img i (λ r. h (omega arith, omega arith))
+not-wiped-at (suc a) [] [] i h = refl
+not-wiped-at (suc a) (w ∷ ws) [] i h = refl
+not-wiped-at (suc a) ws (x ∷ img) zero h = refl
+not-wiped-at (suc a) ws (x ∷ img) (suc i) h = not-wiped-at a ws img i (λ r. h (omega arith, omega arith))
+
+wiped-or-not : (a : ℕ) (ws : List Bool) (img : List ℕ) (i : ℕ)
+    → (getD (wiped-at a ws img) i 0 ≡ getD img i 0) ⊎ (getD (wiped-at a ws img) i 0 ≡ erased-byte)
+unfolding wiped-where
+wiped-or-not zero [] img i = inl refl
+wiped-or-not zero (w ∷ ws) [] i = inl refl
+wiped-or-not zero (true ∷ ws) (x ∷ img) zero = inr refl
+wiped-or-not zero (false ∷ ws) (x ∷ img) zero = inl refl
+wiped-or-not zero (w ∷ ws) (x ∷ img) (suc i) = wiped-or-not zero ws img i
+wiped-or-not (suc a) [] [] i = inl refl
+wiped-or-not (suc a) (w ∷ ws) [] i = inl refl
+wiped-or-not (suc a) ws (x ∷ img) zero = inl refl
+wiped-or-not (suc a) ws (x ∷ img) (suc i) = wiped-or-not a ws img i
+
+pub half-erased : (a n : ℕ) (ws : List Bool) (img : List ℕ) → length ws ≤ n → HalfErased a n img (wiped-at a ws img)
+half-erased a n ws img h = record {
+  same-length = length-wiped-at a ws img;
+  elsewhere = λ i out. not-wiped-at a ws img i (λ r. out (omega arith, omega arith));
+  old-or-erased = wiped-or-not a ws img;
+}
+
+-- ---- whole
+
+lowest-where : (n : ℕ) (bs : List ℕ)
+    → n ≤ length bs
+    → wiped-where (replicate n true) bs ≡ replicate n erased-byte ++ drop n bs
+unfolding wiped-where
+lowest-where zero bs h = refl
+lowest-where (suc n) [] h = absurd (not-suc-le-zero h)
+lowest-where (suc n) (b ∷ bs) h = ap {B = List ℕ} (λ r. erased-byte ∷ r) (lowest-where n bs (le-of-suc-le-suc h))
+
+lowest-at : (a n : ℕ) (img : List ℕ) → a + n ≤ length img → wiped-at a (replicate n true) img ≡ wiped a n img
 unfolding wiped
-wiped-before a n img i h l =
-    let la : i < length (take a img) = simp length-take (omega arith) in
-    rw (List·getD-append, getD-take)
+lowest-at a n img h =
+    let room : n ≤ length (drop a img) = rw length-drop (omega arith) in
+    rw (lowest-where n (drop a img) room, drop-drop n a img)
+
+pub erased-whole : (a n : ℕ) (img : List ℕ) → a + n ≤ length img → HalfErased a n img (wiped a n img)
+erased-whole a n img h =
+    subst (λ (x : List ℕ). HalfErased a n img x) (lowest-at a n img h)
+    (half-erased a n (replicate n true) img (omega (arith, length-replicate n true)))
 
 pub wiped-within : (a n : ℕ) (img : List ℕ) (i : ℕ)
     → a + n ≤ length img
@@ -36,27 +104,17 @@ wiped-within a n img i h l =
     ∙ List·getD-append (replicate n erased-byte) (drop (a + n) img) 0 i lr
     ∙ getD-replicate n i erased-byte 0 l
 
-pub wiped-after : (a n : ℕ) (img : List ℕ) (i : ℕ)
-    → a + n ≤ length img
-    → a + n ≤ i
-    → getD (wiped a n img) i 0 ≡ getD img i 0
-unfolding wiped
-wiped-after a n img i h l =
-    let la : length (take a img) ≡ a = length-take-le a img (omega arith) in
-    let r : List ℕ = replicate n erased-byte in
-    let lr : length r ≡ n = length-replicate n erased-byte in
-    let e : i ≡ length (take a img) + (length r + (i - (a + n))) = omega arith in
-    let f : (a + n) + (i - (a + n)) ≡ i = omega arith in
-    ap (λ (k : ℕ). getD (take a img ++ (replicate n erased-byte ++ drop (a + n) img)) k 0) e
-    ∙ getD-append-add (take a img) (replicate n erased-byte ++ drop (a + n) img) (length r + (i - (a + n))) 0
-    ∙ getD-append-add r (drop (a + n) img) (i - (a + n)) 0
-    ∙ getD-drop (a + n) img (i - (a + n)) 0
-    ∙ ap (λ (k : ℕ). getD img k 0) f
+-- ---- document 01's cut: "the granule's lowest k bytes 0xFF, the rest old, for some k"
 
-pub wiped-nothing : (a : ℕ) (img : List ℕ) → a ≤ length img → wiped a 0 img ≡ img
-wiped-nothing a img h =
-    ext-getD 0 (wiped a 0 img) img (length-wiped a 0 img (omega arith)) λ i l. split i (decLt i a)
-  where
-    split : (i : ℕ) → Dec (i < a) → getD (wiped a 0 img) i 0 ≡ getD img i 0
-    split i (yes d) = wiped-before a 0 img i (omega arith) d
-    split i (no d) = wiped-after a 0 img i (omega arith) (omega arith)
+first-of-equal : (g k : ℕ) (w : Bool) → take g (replicate k w) ≡ replicate (min k g) w
+first-of-equal zero k w = let none : min k 0 ≡ 0 = omega arith in rw none
+first-of-equal (suc g) zero w = let none : min 0 (suc g) ≡ 0 = omega arith in rw none
+first-of-equal (suc g) (suc k) w =
+    let one-more : min (suc k) (suc g) ≡ suc (min k g) = omega arith in
+    rw one-more (ap {B = List Bool} (λ r. w ∷ r) (first-of-equal g k w))
+
+pub lowest-bytes-wiped : (g k a : ℕ) (ss : List Step) (img : List ℕ)
+    → a + min k g ≤ length img
+    → half-done g (replicate k true) (Erase a ∷ ss) img ≡ wiped a (min k g) img
+unfolding half-done
+lowest-bytes-wiped g k a ss img h = rw (first-of-equal g k true) (lowest-at a (min k g) img h)

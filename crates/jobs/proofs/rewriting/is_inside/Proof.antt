@@ -7,34 +7,43 @@ use Rattle.jobs.proofs.rewriting.is_inside.Tie as tie
 less-requires : tie.Need-less-requires
 less-requires c κs = search needs
 
+less-requires-2 : tie.Need-less-requires-2
+less-requires-2 c κs = search needs
+
+are-inside-requires : tie.Need-are-inside-requires
+are-inside-requires c κs = search needs
+
 ends-by-requires : tie.Need-ends-by-requires
 ends-by-requires c κs = search needs
 
 add-are-inside : tie.Need-add-are-inside
 add-are-inside c = search needs
 
-are-inside-requires : tie.Need-are-inside-requires
-are-inside-requires c κs = search needs
-
-less-requires-2 : tie.Need-less-requires-2
-less-requires-2 c κs = search needs
-
 are-inside-requires-2 : tie.Need-are-inside-requires-2
 are-inside-requires-2 c κs = search needs
+
+less-requires-3 : tie.Need-less-requires-3
+less-requires-3 c κs = search needs
+
+are-inside-requires-3 : tie.Need-are-inside-requires-3
+are-inside-requires-3 c κs = search needs
 
 returns : tie.Need-returns
 unfolding rewrite-inside erase-inside
 returns c =
-    let at-less2 = c .before in
-    let at-are-inside = at-less2 .before in
-    let at-ends-by = at-are-inside .before in
-    let at-less = at-ends-by .before in
+    let at-less3 = c .before in
+    let at-are-inside2 = at-less3 .before in
+    let at-ends-by = at-are-inside2 .before in
+    let at-are-inside = at-ends-by .before in
+    let at-less2 = at-are-inside .before in
     rw (
-      at-ends-by .ends-by .ensures,
       at-are-inside .are-inside .ensures,
-      c .are-inside2 .ensures,
+      at-ends-by .ends-by .ensures,
+      at-are-inside2 .are-inside2 .ensures,
+      c .are-inside3 .ensures,
+      at-less3 .less3 .ensures,
       at-less2 .less2 .ensures,
-      at-less .less .ensures,
+      at-less2 .before .less .ensures,
     )
 
 pub is-inside-spec : {M : Type 1} → statement M
@@ -42,9 +51,11 @@ is-inside-spec =
     tie.close
     (tie.spec
     less-requires
+    less-requires-2
+    are-inside-requires
     ends-by-requires
     add-are-inside
-    are-inside-requires
-    less-requires-2
     are-inside-requires-2
+    less-requires-3
+    are-inside-requires-3
     returns)

@@ -5,15 +5,24 @@ use native.Mathlib.Omega.{arith}
 use lib.Seq.{take-all}
 use lib.ListN.{length, take, drop, length-drop, length-take}
 use borrow.Author.Needs.{needs}
-use Rattle.rules.specs.Steps.{rewrite}
-use Rattle.jobs.specs.Jobs.{first-step}
-use Rattle.jobs.proofs.RewriteSteps.{next-rest, next-magic}
+use Rattle.jobs.proofs.RewriteSteps.{next-zero, next-erase, next-rest, next-magic}
 use Rattle.jobs.proofs.rewriting.next_in_rewrite.Statement.{statement}
 use Rattle.jobs.proofs.rewriting.next_in_rewrite.Tie as tie
 
+add-t6 : tie.Need-add-t6
+add-t6 c = search needs
+
 returns : tie.Need-returns
-unfolding first-step rewrite
-returns c = rw (c .if1 .taken)
+returns c =
+    let s = c .before .before in
+    let a = s .args in
+    sym (next-zero (a .at) (a .block .now) (s .pre .0) (a .from) (c .if1 .taken))
+
+returns-2 : tie.Need-returns-2
+returns-2 c =
+    let s = c .before .before .before in
+    let a = s .args in
+    rw (c .if2 .taken) (sym (next-erase (a .at) (a .block .now) (s .pre .0)))
 
 sub-skip : tie.Need-sub-skip
 sub-skip c = search needs
@@ -33,9 +42,9 @@ part-next-program-end c = search needs
 next-program-requires : tie.Need-next-program-requires
 next-program-requires c κs = search needs
 
-returns-2 : tie.Need-returns-2
-returns-2 c =
-    let s = c .before .before .before .before .before in
+returns-3 : tie.Need-returns-3
+returns-3 c =
+    let s = c .before .before .before .before .before .before in
     let a = s .args in
     let whole : take (length (a .block .now) - 4) (drop 4 (a .block .now)) ≡ drop 4 (a .block .now) =
     take-all (length (a .block .now) - 4) (drop 4 (a .block .now)) (simp length-drop (omega arith)) in
@@ -48,9 +57,9 @@ slice-aggregate-next-program c = simp length-take (omega arith)
 next-program-requires-2 : tie.Need-next-program-requires-2
 next-program-requires-2 c κs = (search needs, simp length-take (omega arith))
 
-returns-3 : tie.Need-returns-3
-returns-3 c =
-    let s = c .before .before .before .before .before in
+returns-4 : tie.Need-returns-4
+returns-4 c =
+    let s = c .before .before .before .before .before .before in
     let a = s .args in
     c .next-program2 .ensures ∙ sym (next-magic (a .at) (a .block .now) (s .pre .0) (a .from) (omega arith)
     (omega arith))
@@ -59,14 +68,16 @@ pub next-in-rewrite-spec : {M : Type 1} → statement M
 next-in-rewrite-spec =
     tie.close
     (tie.spec
+    add-t6
     returns
+    returns-2
     sub-skip
     add-next-program
     sub-next-program
     part-next-program-start
     part-next-program-end
     next-program-requires
-    returns-2
+    returns-3
     slice-aggregate-next-program
     next-program-requires-2
-    returns-3)
+    returns-4)

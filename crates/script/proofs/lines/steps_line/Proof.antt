@@ -31,14 +31,26 @@ takes-requires-3 c κs = search needs
 form-requires-3 : tie.Need-form-requires-3
 form-requires-3 c κs = search needs
 
+slice-aggregate-takes-ranges : tie.Need-slice-aggregate-takes-ranges
+slice-aggregate-takes-ranges c = search needs
+
+takes-ranges-requires : tie.Need-takes-ranges-requires
+takes-ranges-requires c κs = search needs
+
+form-requires-4 : tie.Need-form-requires-4
+form-requires-4 c κs = search needs
+
 returns : tie.Need-returns
 unfolding by-forms steps-forms
 returns c =
-    let c2 = c .before .before .before in
+    let c3 = c .before .before .before .before in
+    let c2 = c3 .before .before .before in
     let c1 = c2 .before .before .before in
     rw (
-      c .form3 .ensures,
-      c .before .takes3 .ensures,
+      c .form4 .ensures,
+      c .before .before .takes-ranges .ensures,
+      c3 .form3 .ensures,
+      c3 .before .takes3 .ensures,
       c2 .form2 .ensures,
       c2 .before .takes2 .ensures,
       c1 .form .ensures,
@@ -58,4 +70,7 @@ steps-line-spec =
     slice-aggregate-takes-3
     takes-requires-3
     form-requires-3
+    slice-aggregate-takes-ranges
+    takes-ranges-requires
+    form-requires-4
     returns)

@@ -1,0 +1,72 @@
+-- `is_wiped` is the definition's choice, kind by kind. Assumes nothing.
+use borrow.Author.Needs.{needs}
+use Rattle.bench.specs.Choices.{wipes}
+use Rattle.bench.proofs.tearing.is_wiped.Statement.{statement}
+use Rattle.bench.proofs.tearing.is_wiped.Tie as tie
+
+enum-known-choice : tie.Need-enum-known-choice
+enum-known-choice c = search needs
+
+enum-known-choice-2 : tie.Need-enum-known-choice-2
+enum-known-choice-2 c = search needs
+
+less-requires : tie.Need-less-requires
+less-requires c κs = search needs
+
+enum-known-choice-3 : tie.Need-enum-known-choice-3
+enum-known-choice-3 c = search needs
+
+enum-known-choice-4 : tie.Need-enum-known-choice-4
+enum-known-choice-4 c = search needs
+
+enum-known-choice-5 : tie.Need-enum-known-choice-5
+enum-known-choice-5 c = search needs
+
+enum-known-choice-6 : tie.Need-enum-known-choice-6
+enum-known-choice-6 c = search needs
+
+mixed-requires : tie.Need-mixed-requires
+mixed-requires c κs = search needs
+
+returns : tie.Need-returns
+unfolding wipes
+returns c = rw (c .before .choice .given .1)
+
+returns-2 : tie.Need-returns-2
+unfolding wipes
+returns-2 c = rw (c .before .before .choice2 .given .1, c .less .ensures)
+
+returns-3 : tie.Need-returns-3
+unfolding wipes
+returns-3 c = rw (c .before .choice3 .given .1)
+
+returns-4 : tie.Need-returns-4
+unfolding wipes
+returns-4 c = rw (c .before .choice4 .given .1)
+
+returns-5 : tie.Need-returns-5
+unfolding wipes
+returns-5 c = rw (c .before .choice5 .given .1)
+
+returns-6 : tie.Need-returns-6
+unfolding wipes
+returns-6 c = rw (c .before .before .choice6 .given .1, c .mixed .ensures)
+
+pub is-wiped-spec : {M : Type 1} → statement M
+is-wiped-spec =
+    tie.close
+    (tie.spec
+    enum-known-choice
+    enum-known-choice-2
+    less-requires
+    enum-known-choice-3
+    enum-known-choice-4
+    enum-known-choice-5
+    enum-known-choice-6
+    mixed-requires
+    returns
+    returns-2
+    returns-3
+    returns-4
+    returns-5
+    returns-6)

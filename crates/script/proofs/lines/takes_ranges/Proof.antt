@@ -1,0 +1,16 @@
+-- `takes_ranges` is the test of the verb, of a number and of pairs of numbers. Assumes nothing.
+use Rattle.script.specs.Lines.{takes-ranges}
+use Rattle.script.proofs.Forms.{equal-texts}
+use borrow.Author.Needs.{needs}
+use Rattle.script.proofs.lines.takes_ranges.Statement.{statement}
+use Rattle.script.proofs.lines.takes_ranges.Tie as tie
+
+same-requires : tie.Need-same-requires
+same-requires c κs = search needs
+
+returns : tie.Need-returns
+unfolding takes-ranges
+returns c = let called = c .before .before .before in rw (equal-texts (called .same .ensures .0) (called .same .ensures .1))
+
+pub takes-ranges-spec : {M : Type 1} → statement M
+takes-ranges-spec = tie.close (tie.spec same-requires returns)

@@ -1,0 +1,13 @@
+-- `value_of` is the value of a word as a number. Assumes nothing.
+use borrow.Author.Needs.{needs}
+use Rattle.script.proofs.numbers.value_of.Statement.{statement}
+use Rattle.script.proofs.numbers.value_of.Tie as tie
+
+number-of-requires : tie.Need-number-of-requires
+number-of-requires c κs = search needs
+
+returns : tie.Need-returns
+returns c = rw (c .number-of .ensures)
+
+pub value-of-spec : {M : Type 1} → statement M
+value-of-spec = tie.close (tie.spec number-of-requires returns)
