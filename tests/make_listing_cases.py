@@ -5,7 +5,7 @@
 
 import pathlib
 
-from reference import FIXED, QUARRY_SLOTS, listing, make_image, make_pointers, make_table, quarry
+from reference import FIXED, LISTING, QUARRY_SLOTS, cut, listing, make_image, make_pointers, make_table, quarry, start
 
 CRATE = pathlib.Path(__file__).parent.parent / "crates" / "listing_cases"
 LENGTH = 0xB000
@@ -53,6 +53,20 @@ def cases():
         506: 0x8000,
         507: 0x2000,
     }
+    # each of the three kinds at place 0, in the middle and at the last place; the least and the greatest value of each
+    low = {"spent": 0, "part-written": 0xFF00000000000000, "stray": 1}
+    high = {"spent": 0, "part-written": 0xFFFFFFFFFFFFFFFE, "stray": 0xFEFFFFFFFFFFFFFF}
+    kinds = ["spent", "part-written", "stray"]
+    at_the_ends = {
+        f"dead_{'_'.join(turn).replace('-', '_')}": with_slots(
+            [p1, p2, p3], {0: low[turn[0]], 1: 0x8000, 253: high[turn[1]], 254: 0x9000, 507: high[turn[2]]}
+        )
+        for turn in (kinds, kinds[1:] + kinds[:1], kinds[2:] + kinds[:2])
+    }
+    every_kind = [0, 0xFF0000000000A000, 0x9001, 0x4000, 0xFFFFFFFFFFFF9000, 12345678901234567890]
+    # case 6: the first 15 steps of enabling slot 2, whose first byte is 0
+    filled = quarry()[:0xA000] + b"\0" + quarry()[0xA001:]
+    case_6 = cut(filled, start(filled, LISTING, ("enable", 2)), 4096, 15)
     return {
         "empty_order": image(pointers=(make_pointers(()), make_pointers(()))),
         "no_bytes": b"",
@@ -74,6 +88,11 @@ def cases():
         "overlap": with_slots([(b"P1", 0x8000, 0x2000, 0), p2, p3]),
         "touching": with_slots([p2, (b"P1", 0x8000, 0x1000, 0), p3], (0xA000, 0x8000, 0x9000)),
         "all_eight": with_slots(eight, [at for name, at, size, flags in eight], length=65536),
+        **at_the_ends,
+        "all_places_dead": with_slots([p1, p2, p3], [every_kind[k % 6] for k in range(508)]),
+        "none_dead": with_slots([p1, p2, p3], {0: 0x8000, 1: 0x8000, 253: 0x9000, 507: 0xA000}),
+        "dead_and_no_order": with_slots([p1, p2, p3], {2: 0}),
+        "case_6_cut": case_6,
     }
 
 

@@ -124,11 +124,24 @@ def places(pointers):
     return [pointers[PLACES_AT + 8 * k : PLACES_AT + 8 * k + 8] for k in range(PLACE_COUNT)]
 
 
+def judgement(place, starts):
+    """What a place holds, by the slots' starts."""
+    if place == ERASED:
+        return "erased"
+    if number(place) == 0:
+        return "spent"
+    if number(place) in starts:
+        return "live"
+    if place[7] == 0xFF:
+        return "part-written"
+    return "stray"
+
+
 def boot_order(table, pointers):
     starts = [e.start for e in slots(table)]
     order = []
     for place in reversed(places(pointers)):
-        if place != ERASED and number(place) in starts:
+        if judgement(place, starts) == "live":
             slot = starts.index(number(place))
             if slot not in order:
                 order.append(slot)
@@ -189,12 +202,21 @@ def shown(text):
     return "".join(chr(b) if 0x21 <= b <= 0x7E else "?" for b in text)
 
 
-def listing(image):
-    """What the listing program prints."""
+def dead_places(table, pointers):
+    """The lines of the places that are spent, part-written or stray, lowest first."""
+    starts = [e.start for e in slots(table)]
+    lines = []
+    for k, place in enumerate(places(pointers)):
+        kind = judgement(place, starts)
+        if kind in ("spent", "part-written", "stray"):
+            lines.append(f"{k} {kind} {number(place)}\n")
+    return lines
+
+
+def listing_for(image, setting):
+    """What is printed of an image with this setting."""
     try:
-        if len(image) > LISTING_LIMIT:
-            raise Refused(1)
-        v = view(image, LISTING)
+        v = view(image, setting)
     except Refused as refusal:
         return f"refused {refusal.number}\n"
     lines = ["order slot name start length\n"]
@@ -202,7 +224,15 @@ def listing(image):
     for rank, slot in enumerate(boot_order(v.table, v.pointers), 1):
         e = found[slot]
         lines.append(f"{rank} {slot} {shown(name(e))} {e.start} {e.length}\n")
+    dead = dead_places(v.table, v.pointers)
+    if dead:
+        lines += ["\n", "place kind value\n"] + dead
     return "".join(lines)
+
+
+def listing(image):
+    """What the listing program prints."""
+    return "refused 1\n" if len(image) > LISTING_LIMIT else listing_for(image, LISTING)
 
 
 # ---- steps: ("program", address, byte) or ("erase", address)

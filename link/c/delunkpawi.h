@@ -93,7 +93,8 @@ uint8_t delunkpawi_entry(const uint8_t *image, size_t image_length, size_t granu
 uint8_t delunkpawi_place_count(const uint8_t *image, size_t image_length, size_t granule, size_t spt0, size_t spt1,
                                size_t *count);
 
-/* What a place holds: kind 0 for erased, 1 for live, 2 for dead; the slot of a live place, else 0; and its value. */
+/* What a place holds: kind 0 for erased, 1 for live, 2 for spent (value 0), 3 for part-written (top byte 0xFF), 4 for
+ * stray, which is any other value; the slot of a live place, else 0; and its value. 2 and above are dead places. */
 uint8_t delunkpawi_place(const uint8_t *image, size_t image_length, size_t granule, size_t spt0, size_t spt1,
                          size_t place, uint8_t *kind, uint32_t *slot, uint64_t *value);
 

@@ -1,4 +1,4 @@
-/* --check: do the pairs agree, is anything dead. */
+/* --check: do the pairs agree, what do the places hold. */
 #ifndef CHECK_H
 #define CHECK_H
 

@@ -4,7 +4,7 @@
 #include "library.h"
 
 const char *const block_names[BLOCKS] = {"SPT0", "SPT1", "CPB0", "CPB1"};
-const char *const kind_words[KINDS] = {"erased", "live", "dead"};
+const char *const kind_words[KINDS] = {"erased", "live", "spent", "part-written", "stray"};
 
 static uint8_t read_blocks(const struct flash *flash, struct layout *layout) {
     size_t table, pointers;

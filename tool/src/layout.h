@@ -22,7 +22,7 @@ struct layout {
 };
 
 /* The library's numbers for what a place holds. */
-enum place_kind { ERASED, LIVE, DEAD, KINDS };
+enum place_kind { ERASED, LIVE, SPENT, PART_WRITTEN, STRAY, KINDS };
 
 struct place {
     uint8_t kind;

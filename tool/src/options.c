@@ -24,7 +24,7 @@ static const char usage_text[] =
     "      --table                   tables, entries, pointer block and its pointers, as U-Boot's `rsu list` shows "
     "them\n"
     "      --map                     a drawing of the flash: partitions, which copies stand and agree, the boot order\n"
-    "      --check                   do the pairs agree, is anything dead; with several images one line each\n"
+    "      --check                   do the pairs agree, what do the places hold; with several images one line each\n"
     "      --places                  every place in use and what it holds\n"
     "      --explain                 with a command: what the power failing at any moment would leave\n"
     "SETTING  --base ADDRESS  --spt0 ADDRESS  --spt1 ADDRESS  --granule 4096|32768|65536     numbers as 0x.. or "

@@ -10,7 +10,7 @@
 #include "status.h"
 
 static void print_place(const struct reading *reading, size_t number, const struct place *place) {
-    printf("%5zu %-6s 0x%016" PRIx64, number, kind_words[place->kind], place->value);
+    printf("%5zu %-12s 0x%016" PRIx64, number, kind_words[place->kind], place->value);
     if (place->kind == LIVE) printf(" %s (slot %u)", printed(&reading->slots[place->slot].name), place->slot);
     putchar('\n');
 }
@@ -42,7 +42,7 @@ int show_places(const struct options *options, const struct dump *dump, struct f
     if (refused == 0) refused = delunkpawi_place_count(FLASH(flash), &count);
     if (refused != 0) return answer_refused(dump, options->json, refused);
     if (!options->json) {
-        puts("place kind   value              slot   (the highest place comes first in the boot order)");
+        puts("place kind         value              slot   (the highest place comes first in the boot order)");
         refused = each_place(flash, &reading, count, print_place);
         return refused == 0 ? DONE : fail_refused(dump->path, refused);
     }

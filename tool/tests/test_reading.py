@@ -73,10 +73,11 @@ class Quarry(Bench):
         self.assertEqual(self.done("-q", self.image, "-c").err, "")
 
     def test_places(self):
-        flash = images.quarry([0x8000, 0, 0x9000, 0xFF0000000000A000])
+        flash = images.quarry([0x8000, 0, 0x9000, 0xFF0000000000A000, 0xA001])
         lines = [line.split() for line in self.done(self.put("dead", flash), "--places").lines[1:]]
-        self.assertEqual(lines, [["0", "live", "0x0000000000008000", "P1", "(slot", "0)"], ["1", "dead", "0x0000000000000000"],
-                                 ["2", "live", "0x0000000000009000", "P2", "(slot", "1)"], ["3", "dead", "0xff0000000000a000"]])
+        self.assertEqual(lines, [["0", "live", "0x0000000000008000", "P1", "(slot", "0)"], ["1", "spent", "0x0000000000000000"],
+                                 ["2", "live", "0x0000000000009000", "P2", "(slot", "1)"], ["3", "part-written", "0xff0000000000a000"],
+                                 ["4", "stray", "0x000000000000a001"]])
 
     def test_map(self):
         text = self.done(self.image, "--map").out
@@ -85,7 +86,7 @@ class Quarry(Bench):
             self.assertIn(part, text)
 
     def test_check(self):
-        self.assertIn("ok: tables agree, pointer blocks agree; places: 506 erased, 2 live, 0 dead; starts: P2",
+        self.assertIn("ok: tables agree, pointer blocks agree; places: 506 erased, 2 live, 0 spent, 0 part-written, 0 stray; starts: P2",
                       self.done(self.image, "--check").out)
         cut = images.quarry()
         cut[0x7000:0x7004] = b"\xff" * 4

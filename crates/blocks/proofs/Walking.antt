@@ -14,14 +14,17 @@ use lib.Seq.{length-take-le, take-add}
 use Rattle.rules.specs.Lists.{member, all}
 use Rattle.rules.specs.Pointers.{place-count, places, all-ones, judged, slot-given, gives, add-last, order}
 use Rattle.rules.specs.Commands.{is-first, giving}
+use Rattle.rules.specs.declared.SlotNo.{SlotNo}
 use Rattle.rules.specs.declared.Place.{Place}
-use Rattle.rules.specs.declared.Place.the-variants.{Erased, Live, Dead}
+use Rattle.rules.specs.declared.Place.the-variants.{Erased, Spent, Live, PartWritten, Stray}
 use Rattle.rules.proofs.Lists.Tests.{by-cases, clash, and-true}
+use Rattle.rules.proofs.Order.Ordering.{giving-names}
+use Rattle.rules.proofs.Order.Clearing.{named-starts}
 use Rattle.places.specs.Inner.Added.{place-value}
 use Rattle.places.proofs.Values.{place-turn}
 pub use Rattle.places.proofs.Values.{length-places}
 use Rattle.places.proofs.Free.{FreeFrom}
-use Rattle.places.proofs.BootOrder.{live-start, member-last}
+use Rattle.places.proofs.BootOrder.{member-last}
 use Rattle.walks.proofs.Joined.{or-with-false}
 use Rattle.blocks.specs.Inner.Walked.{is-live}
 use Rattle.blocks.proofs.Noting.{Below}
@@ -43,42 +46,45 @@ order-head starts (v ∷ vs) (suc i) k o h =
     let (q, f) = add-head (slot-given (judged starts v)) k r in
     (q, ap (add-last (slot-given (judged starts v))) e ∙ f)
 
+not-live-gives-none : (j : Place) → is-live j ≡ false → slot-given j ≡ none
+unfolding is-live slot-given
+not-live-gives-none Erased t = refl
+not-live-gives-none Spent t = refl
+not-live-gives-none (Live s) t = absurd (clash true refl t)
+not-live-gives-none PartWritten t = refl
+not-live-gives-none (Stray v) t = refl
+
+-- the slot of a live place
+live-slot : (j : Place) → is-live j ≡ true → (s : SlotNo) × (j ≡ Live s)
+unfolding is-live
+live-slot Erased t = absurd (clash false t refl)
+live-slot Spent t = absurd (clash false t refl)
+live-slot (Live s) t = (s, refl)
+live-slot PartWritten t = absurd (clash false t refl)
+live-slot (Stray v) t = absurd (clash false t refl)
+
 module _ (starts p : List ℕ) (k : ℕ) (within : k < place-count p) (above : order starts (drop (k + 1) (places p))
     ≡ []) where
   pub first-goes : is-live (judged starts (place-value p k)) ≡ false → order starts (drop k (places p)) ≡ []
-  unfolding order
-  first-goes t = rw (place-turn p k within) (by (judged starts (place-value p k)) refl)
-    where
-      by : (j : Place) → judged starts (place-value p k) ≡ j
-          → add-last (slot-given (judged starts (place-value p k))) (order starts (drop (k + 1) (places p))) ≡ []
-      by Erased e = unfold slot-given add-last in rw e above
-      by Dead e = unfold slot-given add-last in rw e above
-      by (Live s) e = unfold is-live in absurd (let z : _≡_ {A = ℕ} 0 1 = cc (rw e at t) in omega arith)
+  unfolding order add-last
+  first-goes t = rw (place-turn p k within, not-live-gives-none (judged starts (place-value p k)) t) above
+
+  first-of : (s : ℕ) (r : SlotNo) → judged starts (place-value p k) ≡ Live r
+      → is-first s (order starts (places p)) ≡ gives s (judged starts (place-value p k))
+  unfolding is-first order slot-given add-last member gives
+  first-of s r e =
+      let here : order starts (drop k (places p)) ≡ r .0 ∷ [] = rw (place-turn p k within, e, above) in
+      rw (order-head starts (places p) k (r .0) [] here .1, e)
 
   pub first-found : (s : ℕ) → is-live (judged starts (place-value p k)) ≡ true
       → is-first s (order starts (places p)) ≡ gives s (judged starts (place-value p k))
-  unfolding is-first order
-  first-found s t = by (judged starts (place-value p k)) refl
-    where
-      by : (j : Place) → judged starts (place-value p k) ≡ j
-          → is-first s (order starts (places p)) ≡ gives s (judged starts (place-value p k))
-      by Erased e = unfold is-live in absurd (let z : _≡_ {A = ℕ} 0 1 = cc (rw e at t) in omega arith)
-      by Dead e = unfold is-live in absurd (let z : _≡_ {A = ℕ} 0 1 = cc (rw e at t) in omega arith)
-      by (Live r) e =
-          unfold slot-given add-last member gives in
-          let here : order starts (drop k (places p)) ≡ r .0 ∷ [] = rw (place-turn p k within, e, above) in
-          rw (order-head starts (places p) k (r .0) [] here .1, e)
+  first-found s t = let (r, e) = live-slot (judged starts (place-value p k)) t in first-of s r e
 
 -- ---- the places that give a slot, from place 0 up
 
 -- a place that gives a slot has its start
 gives-start : (starts : List ℕ) (k v : ℕ) → gives k (judged starts v) ≡ true → v ≡ getD starts k 0
-gives-start starts k v h = by (judged starts v) refl
-  where
-    by : (j : Place) → judged starts v ≡ j → v ≡ getD starts k 0
-    by Erased e = unfold gives in absurd (clash false (rw e at h) refl)
-    by Dead e = unfold gives in absurd (clash false (rw e at h) refl)
-    by (Live s) e = unfold gives in rw (eqb-true k (s .0) (rw e at h)) (sym (live-start starts v s e))
+gives-start starts k v h = sym (named-starts starts v k (giving-names starts k v h) .1)
 
 pub other-value : (starts : List ℕ) (k v start : ℕ) → start ≡ getD starts k 0 → (v ≡ start → ⊥)
     → gives k (judged starts v) ≡ false
@@ -167,7 +173,9 @@ in-order starts k i (v ∷ vs) = by (judged starts v) (in-order starts k (suc i)
         → member k (add-last (slot-given j) (order starts vs))
         ≡ ltb 0 (length (cond (gives k j) (i ∷ giving starts k (suc i) vs) (giving starts k (suc i) vs)))
     by Erased ih = unfold slot-given add-last gives in ih
-    by Dead ih = unfold slot-given add-last gives in ih
+    by Spent ih = unfold slot-given add-last gives in ih
+    by PartWritten ih = unfold slot-given add-last gives in ih
+    by (Stray v) ih = unfold slot-given add-last gives in ih
     by (Live s) ih =
         unfold slot-given add-last gives in
         by-cases (eqb k (s .0))

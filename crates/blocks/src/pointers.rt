@@ -41,8 +41,10 @@ fn is_live(place: Place) -> bool
 {
     match place {
         Place::Erased => false,
-        Place::Dead => false,
+        Place::Spent => false,
         Place::Live(_) => true,
+        Place::PartWritten => false,
+        Place::Stray(_) => false,
     }
 }
 
@@ -51,8 +53,10 @@ fn gives(slot: SlotNo, place: Place) -> bool
 {
     match place {
         Place::Erased => false,
-        Place::Dead => false,
+        Place::Spent => false,
         Place::Live(s) => slot.0 == s.0,
+        Place::PartWritten => false,
+        Place::Stray(_) => false,
     }
 }
 

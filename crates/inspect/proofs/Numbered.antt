@@ -1,19 +1,18 @@
 -- An entry of a table and a place of a pointer block by its number, as code reads it. Assumes nothing.
-use mathlib.Core.Path.{_≡_, sym, ap, _∙_}
+use mathlib.Core.Path.{_≡_, sym, _∙_}
 use mathlib.Core.Bool.{true, false}
 use mathlib.Core.List.{List}
 use Prim.Native.Nat.{ℕ, _+_, _≤_, _<_}
 use native.Mathlib.Omega.{arith}
 use borrow.Author.Tests.{lt-ltb, le-ltb}
-use lib.ListN.{length, getD, drop}
-use lib.Seq.{getD-drop}
+use lib.ListN.{length, drop}
 use Rattle.rules.specs.Table.{entry-count, entries, no-entry}
-use Rattle.rules.specs.Pointers.{place-count, places, erased-value}
+use Rattle.rules.specs.Pointers.{place-count, erased-value}
 use Rattle.rules.proofs.Table.Standing.{length-entries-from}
 use Rattle.walks.specs.Entries.{entry-at}
 use Rattle.walks.proofs.Entries.{entry-of-rows}
 use Rattle.places.specs.Inner.Added.{place-value}
-use Rattle.places.proofs.Values.{place-turn}
+use Rattle.places.proofs.Values.{value-at}
 use Rattle.inspect.specs.Entries.{entry-there, entry-of}
 use Rattle.inspect.specs.Places.{value-of}
 
@@ -40,8 +39,4 @@ module _ (t : List ℕ) (i : ℕ) {n : ℕ} (is-count : n ≡ entry-count t) whe
 -- ---- places
 
 pub value-found : (p : List ℕ) (k : ℕ) → k < place-count p → value-of p k ≡ place-value p k
-value-found p k h =
-    let e : k + 0 ≡ k = omega arith in
-    ap (λ (i : ℕ). getD (places p) i erased-value) (sym e)
-    ∙ sym (getD-drop k (places p) 0 erased-value)
-    ∙ rw (place-turn p k h)
+value-found p k h = value-at p k erased-value h

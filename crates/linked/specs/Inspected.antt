@@ -7,7 +7,7 @@ use lib.ListN.{length}
 use Rattle.rules.specs.Answers.{Answer, given, unless, _>>=_}
 use Rattle.rules.specs.declared.Setting.{Setting}
 use Rattle.rules.specs.declared.Place.{Place}
-use Rattle.rules.specs.declared.Place.the-variants.{Erased, Live, Dead}
+use Rattle.rules.specs.declared.Place.the-variants.{Erased, Spent, Live, PartWritten, Stray}
 use Rattle.rules.specs.declared.Facts.{Facts}
 use Rattle.inspect.specs.Entries.{entry-info, entry-name}
 
@@ -15,17 +15,21 @@ use Rattle.inspect.specs.Entries.{entry-info, entry-name}
 unfoldable pub bit : Bool → ℕ
 bit b = cond b 1 0
 
--- 0 for erased, 1 for live, 2 for dead
+-- 0 for erased, 1 for live; of the dead 2 for spent, 3 for part-written, 4 for stray
 unfoldable pub place-kind : Place → ℕ
 place-kind Erased = 0
 place-kind (Live s) = 1
-place-kind Dead = 2
+place-kind Spent = 2
+place-kind PartWritten = 3
+place-kind (Stray v) = 4
 
 -- the slot of a live place, else 0
 unfoldable pub place-slot : Place → ℕ
 place-slot Erased = 0
 place-slot (Live s) = s .0
-place-slot Dead = 0
+place-slot Spent = 0
+place-slot PartWritten = 0
+place-slot (Stray v) = 0
 
 -- what is known of an entry, with its name
 pub record NamedEntry : Type 0 where

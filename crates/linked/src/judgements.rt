@@ -9,7 +9,9 @@ pub fn kind_of(place: Place) -> u8
     match place {
         Place::Erased => 0,
         Place::Live(_) => 1,
-        Place::Dead => 2,
+        Place::Spent => 2,
+        Place::PartWritten => 3,
+        Place::Stray(_) => 4,
     }
 }
 
@@ -20,7 +22,9 @@ pub fn slot_of(place: Place) -> u32
     match place {
         Place::Erased => 0,
         Place::Live(s) => s.0,
-        Place::Dead => 0,
+        Place::Spent => 0,
+        Place::PartWritten => 0,
+        Place::Stray(_) => 0,
     }
 }
 

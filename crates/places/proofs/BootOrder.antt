@@ -15,7 +15,7 @@ use Rattle.rules.specs.Table.{Entry, slots, slot-starts}
 use Rattle.rules.specs.Pointers.{place-count, places, judged, slot-given, add-last, order}
 use Rattle.rules.specs.declared.SlotNo.{SlotNo}
 use Rattle.rules.specs.declared.Place.{Place}
-use Rattle.rules.specs.declared.Place.the-variants.{Erased, Live, Dead}
+use Rattle.rules.specs.declared.Place.the-variants.{Erased, Spent, Live, PartWritten, Stray}
 use Rattle.rules.proofs.Lists.Tests.{by-cases, and-true}
 use Rattle.rules.proofs.Order.Clearing.{named-starts}
 use Rattle.rules.proofs.Order.OnceEach.{once-order, once-length}
@@ -55,7 +55,9 @@ met starts (w ∷ vs) v s h =
     above : eqb v w ≡ false → member (s .0) (order starts vs) ≡ member v vs
         → (j : Place) → judged starts w ≡ j → member (s .0) (order starts (w ∷ vs)) ≡ member v (w ∷ vs)
     above t ih Erased e = rw (t, e) ih
-    above t ih Dead e = rw (t, e) ih
+    above t ih Spent e = rw (t, e) ih
+    above t ih PartWritten e = rw (t, e) ih
+    above t ih (Stray x) e = rw (t, e) ih
     above t ih (Live r) e =
         let other : s .0 ≡ r .0 → ⊥ =
         λ q. eqb-false v w t
@@ -74,7 +76,9 @@ order-then starts vs v = by (judged starts v) refl
     by : (j : Place) → judged starts v ≡ j
         → order starts (v ∷ vs) ≡ then (order starts vs) (added (judged starts v) (member v vs))
     by Erased e = rw e
-    by Dead e = rw e
+    by Spent e = rw e
+    by PartWritten e = rw e
+    by (Stray x) e = rw e
     by (Live s) e = by-cases (member v vs) (λ m. rw (e, met starts vs v s e, m)) (λ m. rw (e, met starts vs v s e, m))
 
 length-then : (o : List ℕ) (a : Added) → length (then o a) ≡ length o + growth a

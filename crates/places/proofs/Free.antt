@@ -3,7 +3,6 @@
 use mathlib.Core.Path.{_≡_, refl, sym, ap, _∙_}
 use mathlib.Core.Bool.{Bool, true, false}
 use mathlib.Core.List.{List, [], _∷_}
-use mathlib.Core.Option.{Option, none, some}
 use Prim.Native.Nat.{ℕ, zero, suc, _+_, _-_, _≤_}
 use native.Mathlib.Omega.{arith}
 use lib.Dec.{eqb}
@@ -11,11 +10,12 @@ use borrow.Author.Tests.{eqb-true, eqb-false, ne-eqb}
 use lib.ListN.{drop}
 use lib.Seq.{drop-drop}
 use Rattle.rules.specs.Lists.{member, all}
-use Rattle.rules.specs.Pointers.{place-offset, place-count, places, erased-value, all-ones, slot-at, live-or-dead, judged, is-erased, slot-given, add-last, order}
+use Rattle.rules.specs.Pointers.{place-offset, place-count, places, erased-value, all-ones, judged, is-erased, slot-given, add-last, order}
 use Rattle.rules.specs.Commands.{free-place}
 use Rattle.rules.specs.declared.SlotNo.{SlotNo}
 use Rattle.rules.specs.declared.Place.the-variants.{Live}
-use Rattle.rules.proofs.Lists.Tests.{by-cases, and-true}
+use Rattle.rules.proofs.Lists.Tests.{and-true}
+use Rattle.rules.proofs.Order.Ordering.{erased-by-value}
 use Rattle.walks.specs.Last.{last-from}
 use Rattle.walks.proofs.Last.{last-within, last-passes}
 use Rattle.places.specs.Inner.PlacesOf.{free-from, places-of, HasPlaces}
@@ -23,16 +23,6 @@ use Rattle.places.specs.declared.Places.{Places}
 use Rattle.places.proofs.Values.{length-places}
 
 -- ---- a place is erased by its value alone
-
-live-or-dead-used : (x : Option ℕ) → is-erased (live-or-dead x) ≡ false
-unfolding live-or-dead is-erased
-live-or-dead-used none = refl
-live-or-dead-used (some k) = refl
-
-erased-by-value : (starts : List ℕ) (v : ℕ) → is-erased (judged starts v) ≡ all-ones v
-unfolding judged is-erased
-erased-by-value starts v =
-    by-cases (all-ones v) (λ t. rw t) (λ t. rw (t, live-or-dead-used (slot-at starts v)))
 
 -- a live place is not erased
 pub live-used : (starts : List ℕ) (v : ℕ) (s : SlotNo) → judged starts v ≡ Live s → all-ones v ≡ false

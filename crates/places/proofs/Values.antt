@@ -1,9 +1,10 @@
 -- The places of a pointer block by number, and where they lie in a block that stands. Assumes nothing.
-use mathlib.Core.Path.{_≡_, refl}
+use mathlib.Core.Path.{_≡_, refl, sym, ap, _∙_}
 use mathlib.Core.List.{List, [], _∷_}
 use Prim.Native.Nat.{ℕ, _+_, _-_, _*_, _≤_, _<_}
 use native.Mathlib.Omega.{arith}
-use lib.ListN.{length, take, drop, drop-of-length-le}
+use lib.ListN.{length, getD, take, drop, drop-of-length-le}
+use lib.Seq.{getD-drop}
 use Rattle.rules.specs.Bytes.{little-endian, field, block-size}
 use Rattle.rules.specs.Pointers.{place-offset, place-count, values, places}
 use Rattle.rules.proofs.Lists.Words.{length-values}
@@ -35,6 +36,12 @@ module _ (p : List ℕ) (k : ℕ) where
   unfolding places
   place-over h =
       drop-of-length-le (values (place-count p) (drop (place-offset p) p)) {i = k} (rw length-values h)
+
+-- a place of the list of places, whatever stands for one that is not there
+pub value-at : (p : List ℕ) (k d : ℕ) → k < place-count p → getD (places p) k d ≡ place-value p k
+value-at p k d h =
+    let e : k + 0 ≡ k = omega arith in
+    ap (λ (i : ℕ). getD (places p) i d) (sym e) ∙ sym (getD-drop k (places p) 0 d) ∙ rw (place-turn p k h)
 
 pub length-places : (p : List ℕ) → length (places p) ≡ place-count p
 unfolding places

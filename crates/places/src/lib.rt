@@ -32,6 +32,9 @@ const PLACE_COUNT: usize = 508;
 // The value of an erased place.
 const ALL_ONES: u64 = 0xFFFF_FFFF_FFFF_FFFF;
 
+// What a value's top byte counts.
+const TOP_BYTE: u64 = 0x0100_0000_0000_0000;
+
 // The places of a pointer block: where they begin, how many there are, and the lowest such that it and all above are
 // erased, or the count.
 pub struct Places {
@@ -135,11 +138,17 @@ pub fn judge(t: &[u8], rows: Rows, v: u64) -> Place
     if v == ALL_ONES {
         return Place::Erased;
     }
-    let e = slots::find_slot(t, rows.count, v);
-    if rows.count <= e.0 {
-        return Place::Dead;
+    if v == 0 {
+        return Place::Spent;
     }
-    Place::Live(slots::slot_at(t, rows, e))
+    let e = slots::find_slot(t, rows.count, v);
+    if e.0 < rows.count {
+        return Place::Live(slots::slot_at(t, rows, e));
+    }
+    if v / TOP_BYTE == 0xFF {
+        return Place::PartWritten;
+    }
+    Place::Stray(v)
 }
 
 // A place above this one has the value, which is not that of an erased place.
@@ -167,12 +176,14 @@ pub fn added_by(t: &[u8], rows: Rows, p: &[u8], places: Places, place: PlaceNo) 
     let judgement = judge(t, rows, v);
     match judgement {
         Place::Erased => Added::Nothing,
-        Place::Dead => Added::Nothing,
+        Place::Spent => Added::Nothing,
         Place::Live(s) => {
             if held_above(p, places, place, v) {
                 return Added::Nothing;
             }
             Added::Slot(s)
         }
+        Place::PartWritten => Added::Nothing,
+        Place::Stray(_) => Added::Nothing,
     }
 }

@@ -19,7 +19,7 @@ use Rattle.rules.specs.Commands.{pointer-bytes, filled, pointers-of, free-place
 use Rattle.rules.specs.Cuts.{Progress, run, may-run, runs, wiped-where, half-done, dropped}
 use Rattle.rules.specs.Book.{Reading, the-commands, was-refused, finished, cut, how-ended, renamed, booked}
 use Rattle.quarry.specs.Quarry.{quarry-setting, padded, entry-bytes, quarry-table, quarry-pointers}
-use Rattle.rules.specs.declared.Place.the-variants.{Erased, Live, Dead}
+use Rattle.rules.specs.declared.Place.the-variants.{Erased, Spent, Live, PartWritten, Stray}
 use Rattle.rules.specs.declared.Step.{Step}
 use Rattle.rules.specs.declared.Step.the-variants.{Program, Erase}
 use Rattle.quarry.proofs.Opened.{rules}
@@ -128,11 +128,16 @@ pointer-examples :
     (map pointers-stand (quarry-pointers [] ∷ table ∷ []) ≡ true ∷ false ∷ [])
     × (take 3 (places (quarry-pointers (0x8000 ∷ 0 ∷ []))) ≡ 0x8000 ∷ 0 ∷ erased-value ∷ [])
     × (length (places (quarry-pointers [])) ≡ 508)
-    × (map (judged three-starts) (erased-value ∷ 0x9000 ∷ 0x9001 ∷ 0 ∷ [])
-    ≡ Erased ∷ Live (record { 0 = 1 }) ∷ Dead ∷ Dead ∷ [])
+    × (map (judged three-starts) (erased-value ∷ 0 ∷ 0x9000 ∷ 0xFF00000000009000 ∷ 0x9001 ∷ [])
+    ≡ Erased ∷ Spent ∷ Live (record { 0 = 1 }) ∷ PartWritten ∷ Stray 0x9001 ∷ [])
+    × (map (judged three-starts) (0xFFFFFFFFFFFFFFFE ∷ 0xFF00000000000000 ∷ 0xFEFFFFFFFFFFFFFF ∷ 1 ∷ [])
+    ≡ PartWritten ∷ PartWritten ∷ Stray 0xFEFFFFFFFFFFFFFF ∷ Stray 1 ∷ [])
+    -- case 6: what the cut leaves in place 2 of CPB0, and how the listing prints it
+    × (judged three-starts 0xFF0000000000A000 ≡ PartWritten)
+    × (_≡_ {A = ℕ} 0xFF0000000000A000 18374686479671664640)
     × (order three-starts (0x8000 ∷ 0x9000 ∷ 0 ∷ 0x8000 ∷ erased-value ∷ []) ≡ 0 ∷ 1 ∷ [])
 unfolding rules table
-pointer-examples = (refl, refl, refl, refl, refl)
+pointer-examples = (refl, refl, refl, refl, refl, refl, refl, refl)
 
 -- ---- copies and dumps
 

@@ -1,9 +1,10 @@
-// Answers on standard output, each a line.
+// Answers on standard output, each a line, but for the listing.
 use super::bounds::least;
 use libc::STDOUT_FILENO;
 use rules::EntryNo;
 use rules::Facts;
 use rules::Refusal;
+use rules::Setting;
 use rules::SlotNo;
 use script::answers::put_number;
 
@@ -45,6 +46,13 @@ pub fn print_order(row: &[u32]) {
     let end = text::put_bytes(&mut out, 0, b"order");
     let after = script::answers::put_numbers(&mut out, end, row);
     write_line(&mut out, after);
+}
+
+// The listing of an image, in as many lines as it has. The buffer takes it whole (`listing-for-whole`).
+pub fn print_listing(setting: Setting, image: &[u8]) {
+    let mut out = io::large_buffer();
+    let end = report::listing_for(image, setting, &mut out);
+    io::write_all(STDOUT_FILENO, &out[..end]);
 }
 
 // A slot's number, entry, name and facts.

@@ -15,6 +15,7 @@ pub fn ask(desk: Desk, room: &[u8], asked: Question) -> bool {
     let image = &room[0..length];
     match asked {
         Question::Order(places) => tell_order(setting, image, places),
+        Question::Listing => tell_listing(setting, image),
         Question::Slot(slot) => tell_slot(setting, image, slot),
         Question::Peek(at, n) => tell_bytes(image, at, n),
         Question::Sum => tell_sum(image),
@@ -42,6 +43,11 @@ fn tell_order_in(setting: Setting, image: &[u8], places: usize, row: &mut [u32])
             printing::print_order(&row[0..end]);
         }
     }
+    true
+}
+
+fn tell_listing(setting: Setting, image: &[u8]) -> bool {
+    printing::print_listing(setting, image);
     true
 }
 

@@ -1,2 +1,5 @@
+pub mod Examples
 pub mod Fits
 pub mod Lines
+pub mod DeadPlaces
+pub mod Read

@@ -1,24 +1,28 @@
-// The listing of an image's boot order, as document 01 gives it, put into a lent buffer.
+// The listing of an image, put into a lent buffer: its boot order, then its dead places.
+mod dead; // the dead places
+
 use reading::Known;
-use reading::Listed;
+use reading::Viewed;
 use rules::Setting;
 use rules::SlotNo;
+use rules::View;
 ghost use mathlib.Core.Path.{_≡_};
 ghost use Prim.Native.Nat.{_≤_};
 ghost use lib.ListN.{length, take};
+ghost use Rattle.reading.specs.Inner.Located.{Located};
 ghost use Rattle.text.specs.Put.{Put};
-ghost use Rattle.report.specs.Listing.{listing, refusal, slot-lines, slot-line, facts-text};
+ghost use Rattle.report.specs.Listing.{listing, listing-for, parts, refusal, numbered, slot-line, facts-text};
 
+// What the listing program has fixed. More bytes than the limit are refused.
 const GRANULE: usize = 4096;
 
 const SPT0: usize = 0x4000;
 
 const SPT1: usize = 0x5000;
 
-// More bytes than this are refused.
 const IMAGE_LIMIT: usize = 65536;
 
-// Puts the listing at the front of `out`, and answers how many bytes it has.
+// Puts the listing program's listing at the front of `out`, and answers how many bytes it has.
 pub fn listing_of(image: &[u8], out: &mut [u8]) -> usize
     ensures told { λ r. ⌜ Put (now (out .entry)) 0 (listing (now (image .entry))) (now (out .exit)) r ⌝ }
     ensures inside { λ r. ⌜ (r ≤ length (now (out .exit))) × (r ≡ length (take r (now (out .exit)))) ⌝ }
@@ -26,20 +30,43 @@ pub fn listing_of(image: &[u8], out: &mut [u8]) -> usize
     if IMAGE_LIMIT < image.len() {
         return put_refusal(out, 1);
     }
-    let setting = Setting {
-        granule: GRANULE,
-        spt0: SPT0,
-        spt1: SPT1,
-    };
-    let mut row = [0u32; 508];
-    let listed = reading::order_list(image, setting, &mut row);
-    match listed {
-        Listed::Refused(why) => put_refusal(out, why.number),
-        Listed::Count(count) => {
-            let end = text::put_bytes(out, 0, b"order slot name start length\n");
-            put_lines(image, setting, &row, count, out, end)
-        }
+    listing_for(
+        image,
+        Setting {
+            granule: GRANULE,
+            spt0: SPT0,
+            spt1: SPT1,
+        },
+        out,
+    )
+}
+
+// The same for any setting and an image of any length.
+pub fn listing_for(image: &[u8], setting: Setting, out: &mut [u8]) -> usize
+    ensures told { λ r. ⌜ Put (now (out .entry)) 0 (listing-for setting (now (image .entry))) (now (out .exit)) r ⌝ }
+    ensures inside { λ r. ⌜ (r ≤ length (now (out .exit))) × (r ≡ length (take r (now (out .exit)))) ⌝ }
+{
+    let seen = reading::view(image, setting);
+    match seen {
+        Viewed::Refused(why) => put_refusal(out, why.number),
+        Viewed::At(v) => put_parts(image, setting, v, out),
     }
+}
+
+// The boot order and the dead places, by where things are.
+fn put_parts(image: &[u8], setting: Setting, v: View, out: &mut [u8]) -> usize
+    requires { ⌜ Located (now image) v ⌝ }
+    ensures { λ r. ⌜ Put (now (out .entry)) 0 (parts setting (now (image .entry)) v) (now (out .exit)) r ⌝ }
+{
+    let t = fields::block_at(image, v.table);
+    let p = fields::block_at(image, v.pointers);
+    let rows = slots::rows_of(t);
+    let places = places::places_of(p);
+    let mut row = [0u32; 127];
+    let count = places::order::write_order(t, rows, p, places, &mut row);
+    let mut end = text::put_bytes(out, 0, b"order slot name start length\n");
+    end = put_lines(image, setting, &row, count, out, end);
+    dead::put_dead(t, rows, p, places, out, end)
 }
 
 fn put_refusal(out: &mut [u8], number: u8) -> usize
@@ -60,7 +87,7 @@ fn put_lines(
     at: usize,
 ) -> usize
     requires { ⌜ count ≤ length (now row) ⌝ }
-    ensures { λ r. ⌜ Put (now (out .entry)) at (slot-lines setting (now (image .entry)) 1 (take count (now (row .entry))))
+    ensures { λ r. ⌜ Put (now (out .entry)) at (numbered (slot-line setting (now (image .entry))) 1 (take count (now (row .entry))))
         (now (out .exit)) r ⌝ }
 {
     let mut end = at;

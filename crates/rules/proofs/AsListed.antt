@@ -4,7 +4,7 @@ use mathlib.Core.List.{List, [], _∷_, _++_}
 use lib.ListN.{take, drop}
 use Rattle.rules.specs.Lists.{member, without}
 use Rattle.rules.specs.Bytes.{little-endian, bytes-of, field}
-use Rattle.rules.specs.Pointers.{place-offset, place-count, values, places, erased-value, all-ones, one-more, slot-at, live-or-dead, judged, is-erased, slot-given, add-last, order}
+use Rattle.rules.specs.Pointers.{place-offset, place-count, values, places, erased-value, all-ones, all-zeros, top-byte-erased, one-more, slot-at, live-or, judged, is-erased, slot-given, add-last, order}
 use Rattle.rules.specs.Steps.{programs, rewrite, rewrite-pair}
 use Rattle.rules.specs.Commands.{pointer-bytes, filled, pointers-of, reorder-steps, below, free-place, into-place, append-steps, giving, into-places, clear-steps, half-cleared-names, disable-steps}
 use Rattle.rules.specs.declared.Step.{Step}
@@ -31,7 +31,7 @@ copy-1-zeroed-then-erased = refl
 -- place 1 is erased and place 2 is not: the free place is above both
 pub free-place-above-all-used :
     free-place (0x8000 ∷ []) (0x8000 ∷ erased-value ∷ 0x8000 ∷ erased-value ∷ erased-value ∷ []) ≡ 3
-unfolding all-ones one-more slot-at live-or-dead judged is-erased below free-place
+unfolding all-ones all-zeros top-byte-erased one-more slot-at live-or judged is-erased below free-place
 free-place-above-all-used = refl
 
 -- 0x11000 half cleared names the slot at 0x10000: disable rewrites

@@ -7,7 +7,7 @@ use lib.Dec.{eqb}
 use lib.ListN.{take, drop, getD, length}
 use Rattle.rules.specs.Lists.{same, member, all}
 use Rattle.rules.specs.Bytes.{little-endian, bytes-of, block}
-use Rattle.rules.specs.Pointers.{values, all-ones, one-more, slot-at, live-or-dead, judged, slot-given, gives, add-last, order}
+use Rattle.rules.specs.Pointers.{values, all-ones, all-zeros, top-byte-erased, one-more, slot-at, live-or, judged, slot-given, gives, add-last, order}
 use Rattle.rules.specs.Steps.{programmed, wiped, step, steps, programs, rewrite}
 use Rattle.rules.specs.Cuts.{wiped-where, half-done}
 use Rattle.rules.specs.Copies.{pair-agrees}
@@ -68,7 +68,7 @@ order-of img = order two-starts (values 3 img)
 pub old-order-or-without-the-slot :
     at-every-cut (choices 0) clearing (pointer-bytes with-duplicate)
     (λ img. same (order-of img) (0 ∷ 1 ∷ []) || same (order-of img) (1 ∷ [])) ≡ true
-unfolding same member all little-endian bytes-of values all-ones one-more slot-at live-or-dead judged slot-given gives add-last order programmed wiped step steps programs wiped-where half-done pointer-bytes giving into-place into-places
+unfolding same member all little-endian bytes-of values all-ones all-zeros top-byte-erased one-more slot-at live-or judged slot-given gives add-last order programmed wiped step steps programs wiped-where half-done pointer-bytes giving into-place into-places
 old-order-or-without-the-slot = refl
 
 -- ---- a repair writes the copy that is not read: here a copy stands if its first byte is 7

@@ -2,6 +2,7 @@ pub mod PointerHeader
 pub mod Placing
 pub mod InPlace
 pub mod Filling
+pub mod Kinds
 pub mod HalfCleared
 pub mod PlacesCleared
 pub mod PointerPair

@@ -3,13 +3,13 @@
 use mathlib.Core.Bool.{Bool, true, false, cond, _&&_}
 use mathlib.Core.List.{List, [], _∷_, _++_}
 use mathlib.Core.Option.{Option, none, some}
-use Prim.Native.Nat.{ℕ, zero, suc}
+use Prim.Native.Nat.{ℕ, zero, suc, _/_}
 use lib.Dec.{eqb}
 use lib.ListN.{take, drop}
 use Rattle.rules.specs.Lists.{member}
 use Rattle.rules.specs.Bytes.{little-endian, field, block-size}
 use Rattle.rules.specs.declared.Place.{Place}
-use Rattle.rules.specs.declared.Place.the-variants.{Erased, Live, Dead}
+use Rattle.rules.specs.declared.Place.the-variants.{Erased, Spent, Live, PartWritten, Stray}
 
 -- 0x10: where the places begin, and 0x14: how many there are
 unfoldable pub place-offset : List ℕ → ℕ
@@ -45,9 +45,17 @@ places p = values (place-count p) (drop (place-offset p) p)
 abbrev pub erased-value : ℕ
 erased-value = 0xFFFFFFFFFFFFFFFF
 
--- its 8 bytes are 0xFF
+-- "erased": its 8 bytes are 0xFF
 unfoldable pub all-ones : ℕ → Bool
 all-ones v = eqb v erased-value
+
+-- "spent (0)"
+unfoldable pub all-zeros : ℕ → Bool
+all-zeros v = eqb v 0
+
+-- "part-written (top byte 0xFF, not erased)": the byte that is programmed last is still as an erase left it
+unfoldable pub top-byte-erased : ℕ → Bool
+top-byte-erased v = eqb (v / 0x100000000000000) 0xFF
 
 unfoldable pub one-more : Option ℕ → Option ℕ
 one-more none = none
@@ -58,30 +66,49 @@ unfoldable pub slot-at : List ℕ → ℕ → Option ℕ
 slot-at [] v = none
 slot-at (a ∷ starts) v = cond (eqb a v) (some 0) (one-more (slot-at starts v))
 
-unfoldable pub live-or-dead : Option ℕ → Place
-live-or-dead none = Dead
-live-or-dead (some k) = Live (record { 0 = k })
+-- "live with its slot" where a slot starts at the value, else something other
+unfoldable pub live-or : Place → Option ℕ → Place
+live-or other none = other
+live-or other (some k) = Live (record { 0 = k })
 
--- what a place with this value holds, by the slots' starts (document 01's "erased", "live" and "dead")
+-- what a place with this value holds, by the slots' starts: "erased, spent (0), live with its slot, part-written (top
+-- byte 0xFF, not erased) or stray with its value". In document 01's words: "A place is erased if its 8 bytes are 0xFF.
+-- It is live if its value is the start of an application slot. Every other value (0 included) is dead."
 unfoldable pub judged : List ℕ → ℕ → Place
-judged starts v = cond (all-ones v) Erased (live-or-dead (slot-at starts v))
+judged starts v =
+    cond (all-ones v) Erased
+    (cond (all-zeros v) Spent (live-or (cond (top-byte-erased v) PartWritten (Stray v)) (slot-at starts v)))
 
 unfoldable pub is-erased : Place → Bool
 is-erased Erased = true
-is-erased Dead = false
+is-erased Spent = false
 is-erased (Live s) = false
+is-erased PartWritten = false
+is-erased (Stray v) = false
+
+-- document 01's "dead": spent, part-written or stray
+unfoldable pub is-dead : Place → Bool
+is-dead Erased = false
+is-dead Spent = true
+is-dead (Live s) = false
+is-dead PartWritten = true
+is-dead (Stray v) = true
 
 -- the slot that a place gives
 unfoldable pub slot-given : Place → Option ℕ
 slot-given Erased = none
-slot-given Dead = none
+slot-given Spent = none
 slot-given (Live s) = some (s .0)
+slot-given PartWritten = none
+slot-given (Stray v) = none
 
 -- the place gives this slot
 unfoldable pub gives : ℕ → Place → Bool
 gives k Erased = false
-gives k Dead = false
+gives k Spent = false
 gives k (Live s) = eqb k (s .0)
+gives k PartWritten = false
+gives k (Stray v) = false
 
 -- ---- the boot order
 

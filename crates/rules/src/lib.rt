@@ -21,11 +21,13 @@ pub struct Refusal {
     pub number: u8,
 }
 
-// What one pointer place holds: document 01's "erased", "live" and "dead".
+// What one pointer place holds. Document 01's "dead" is one of spent, part-written and stray.
 pub enum Place {
     Erased,
+    Spent,
     Live(SlotNo),
-    Dead,
+    PartWritten,
+    Stray(u64),
 }
 
 // Where the four blocks are, and the addresses of the two copies that are read.

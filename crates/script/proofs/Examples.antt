@@ -22,7 +22,7 @@ use Rattle.script.specs.Lines.{
 use Rattle.script.specs.declared.Line.{Line}
 use Rattle.script.specs.declared.Line.the-variants.{Nothing, Change, Question, Command, Steps, Error}
 use Rattle.script.specs.declared.Change.the-variants.{Image, Put}
-use Rattle.script.specs.declared.Question.the-variants.{Order}
+use Rattle.script.specs.declared.Question.the-variants.{Order, Listing}
 use Rattle.script.specs.declared.Command.the-variants.{Rename, RenameToNothing}
 use Rattle.script.specs.declared.Steps.the-variants.{Cut, Torn}
 
@@ -32,6 +32,8 @@ lines =
     ∷ "order"
     ∷ "order 508"
     ∷ "order 509"
+    ∷ "list"
+    ∷ "list 1"
     ∷ "image 65536 0255"
     ∷ "put 16 4a4b"
     ∷ "put 16 4a4"
@@ -52,6 +54,8 @@ pub lines-do : map (λ (line : String). line-of (ascii line)) lines
     ≡ Nothing
     ∷ Question (Order 127)
     ∷ Question (Order 508)
+    ∷ Error
+    ∷ Question Listing
     ∷ Error
     ∷ Change (Image 65536 255)
     ∷ Change (Put 16)

@@ -14,7 +14,7 @@ use Rattle.script.specs.declared.numbers.Row.{Row}
 use Rattle.script.specs.declared.Line.{Line}
 use Rattle.script.specs.declared.Line.the-variants.{Nothing, Change, Question, Command, Steps, Error}
 use Rattle.script.specs.declared.Change.the-variants.{Image, Length, Setting, Put, Copy}
-use Rattle.script.specs.declared.Question.the-variants.{Order, Slot, Peek, Sum, Dumps}
+use Rattle.script.specs.declared.Question.the-variants.{Order, Listing, Slot, Peek, Sum, Dumps}
 use Rattle.script.specs.declared.Command.the-variants.{Enable, Disable, Rename, RenameToNothing, Repair}
 use Rattle.script.specs.declared.Steps.the-variants.{Run, Cut, Torn}
 
@@ -61,6 +61,7 @@ module _ (verb : List ℕ) (row : Row) where
   question-forms =
       (takes verb (ascii "order") row 0, Question (Order 127))
       ∷ (takes verb (ascii "order") row 1 && leb (row .first) 508, Question (Order (row .first)))
+      ∷ (takes verb (ascii "list") row 0, Question Listing)
       ∷ (takes-slot verb (ascii "slot") row, Question (Slot (slot-of row)))
       ∷ (takes verb (ascii "peek") row 2, Question (Peek (row .first) (row .second)))
       ∷ (takes verb (ascii "sum") row 0, Question Sum)

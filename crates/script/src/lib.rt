@@ -31,9 +31,10 @@ pub enum Change {
     Copy(usize, usize, usize),
 }
 
-// `order` with the length of its row, `slot`, `peek`, `sum`, `dumps`.
+// `order` with the length of its row, `list`, `slot`, `peek`, `sum`, `dumps`.
 pub enum Question {
     Order(usize),
+    Listing,
     Slot(SlotNo),
     Peek(usize, usize),
     Sum,

@@ -107,6 +107,11 @@ pub fn question_line(verb: &[u8], row: Row, otherwise: Line) -> Line
         line,
     );
     line = form(fits, Line::Question(Question::Order(row.first)), line);
+    line = form(
+        takes(verb, b"list", row, 0),
+        Line::Question(Question::Listing),
+        line,
+    );
     line = form(takes_slot(verb, b"slot", row), Line::Question(slot), line);
     line = form(takes(verb, b"peek", row, 2), Line::Question(peek), line);
     line = form(

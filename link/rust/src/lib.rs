@@ -77,7 +77,12 @@ pub enum Place {
     Erased,
     /// It points at the start of this slot.
     Live(u32),
-    Dead,
+    /// It was cleared: its value is 0.
+    Spent,
+    /// Its top byte is 0xFF, though not all of them are.
+    PartWritten,
+    /// Any other value, at which no slot starts.
+    Stray,
 }
 
 /// The step that comes next.
@@ -316,7 +321,9 @@ impl Setting {
         let judgement = match kind {
             0 => Place::Erased,
             1 => Place::Live(slot),
-            _ => Place::Dead,
+            2 => Place::Spent,
+            3 => Place::PartWritten,
+            _ => Place::Stray,
         };
         answer(number, (judgement, value))
     }

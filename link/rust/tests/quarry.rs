@@ -56,7 +56,11 @@ fn looks_into() {
     assert_eq!(SETTING.place(&image, 2), Ok((Place::Erased, u64::MAX)));
     assert_eq!(SETTING.place(&image, 508), Err(Refused(93)));
     image[0x6021] = 0;
-    assert_eq!(SETTING.place(&image, 0), Ok((Place::Dead, 0)));
+    assert_eq!(SETTING.place(&image, 0), Ok((Place::Spent, 0)));
+    image[0x6020] = 1;
+    assert_eq!(SETTING.place(&image, 0), Ok((Place::Stray, 1)));
+    image[0x6027] = 0xFF;
+    assert_eq!(SETTING.place(&image, 0), Ok((Place::PartWritten, 0xFF00_0000_0000_0001)));
 }
 
 #[test]

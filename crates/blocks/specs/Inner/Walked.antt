@@ -7,7 +7,7 @@ use Rattle.rules.specs.Table.{starts}
 use Rattle.rules.specs.Pointers.{places}
 use Rattle.rules.specs.Commands.{filled, giving}
 use Rattle.rules.specs.declared.Place.{Place}
-use Rattle.rules.specs.declared.Place.the-variants.{Erased, Live, Dead}
+use Rattle.rules.specs.declared.Place.the-variants.{Erased, Spent, Live, PartWritten, Stray}
 use Rattle.walks.specs.Entries.{most-entries}
 use Rattle.slots.specs.Inner.RowsOf.{HasRows}
 use Rattle.slots.specs.declared.Rows.{Rows}
@@ -31,8 +31,10 @@ pub record SlotNumbers (count : ℕ) (o : List ℕ) : Type 0 where
 
 unfoldable pub is-live : Place → Bool
 is-live Erased = false
-is-live Dead = false
+is-live Spent = false
 is-live (Live s) = true
+is-live PartWritten = false
+is-live (Stray v) = false
 
 -- a place number as the i-th of a row of numbers of two bytes each
 unfoldable pub noted : ℕ → ℕ → List ℕ → List ℕ

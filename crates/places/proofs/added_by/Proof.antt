@@ -47,6 +47,12 @@ returns c =
       sym (held .held-above .ensures) ∙ c .if1 .taken,
     )
 
+enum-told-3 : tie.Need-enum-told-3
+enum-told-3 c = search needs
+
+enum-told-4 : tie.Need-enum-told-4
+enum-told-4 c = search needs
+
 returns-2 : tie.Need-returns-2
 unfolding added-at added
 returns-2 c =
@@ -72,6 +78,18 @@ returns-4 c =
       sym (held .held-above .ensures) ∙ c .if1 .left,
     )
 
+returns-5 : tie.Need-returns-5
+unfolding added-at added
+returns-5 c =
+    let judged = c .before .before in
+    rw (← judged .before .place-value .ensures, ← judged .judge .ensures, c .enum-told3 .given .1)
+
+returns-6 : tie.Need-returns-6
+unfolding added-at added
+returns-6 c =
+    let judged = c .before .before in
+    rw (← judged .before .place-value .ensures, ← judged .judge .ensures, c .enum-told4 .given .1)
+
 pub added-by-spec : {M : Type 1} → statement M
 added-by-spec =
     tie.close
@@ -83,6 +101,10 @@ added-by-spec =
     enum-known-judgement
     held-above-requires
     returns
+    enum-told-3
+    enum-told-4
     returns-2
     returns-3
-    returns-4)
+    returns-4
+    returns-5
+    returns-6)

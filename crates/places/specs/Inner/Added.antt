@@ -7,16 +7,18 @@ use Rattle.rules.specs.Lists.{member}
 use Rattle.rules.specs.Bytes.{field}
 use Rattle.rules.specs.Pointers.{place-offset, places, judged}
 use Rattle.rules.specs.declared.Place.{Place}
-use Rattle.rules.specs.declared.Place.the-variants.{Erased, Live, Dead}
+use Rattle.rules.specs.declared.Place.the-variants.{Erased, Spent, Live, PartWritten, Stray}
 use Rattle.places.specs.declared.Added.{Added}
 use Rattle.places.specs.declared.Added.the-variants.{Slot, Nothing}
 
 -- what a place adds, given whether a higher place has the same value
 unfoldable pub added : Place → Bool → Added
 added Erased held = Nothing
-added Dead held = Nothing
+added Spent held = Nothing
 added (Live s) true = Nothing
 added (Live s) false = Slot s
+added PartWritten held = Nothing
+added (Stray v) held = Nothing
 
 -- the value of a place, by its number
 unfoldable pub place-value : List ℕ → ℕ → ℕ

@@ -3,22 +3,23 @@ use mathlib.Core.Path.{_≡_}
 use Prim.Native.Nat.{_≤_, _-_}
 use lib.ListN.{take}
 use native.Mathlib.Omega.{arith}
+use native.Mathlib.Nat.{add-comm}
 use Rattle.text.specs.Put.{Put}
 use Rattle.text.proofs.Puts.{put-nothing, keeps-length}
-use Rattle.report.specs.Listing.{slot-lines}
-use Rattle.report.proofs.Lines.{one-more-line}
+use Rattle.report.specs.Listing.{slot-line, numbered}
+use Rattle.report.proofs.Lines.{one-more-text}
 use borrow.Author.Needs.{needs}
 use Rattle.report.proofs.put_lines.Statement.{statement}
 use Rattle.report.proofs.put_lines.Tie as tie
 
 abbrev Inv-loop : tie.InvT-loop
-Inv-loop image setting row count out₀ at end₀ i₀ out end i = Put out₀ end₀ (slot-lines setting image 1 (take i row)) out end × (i ≤ count)
+Inv-loop image setting row count out₀ at end₀ i₀ out end i = Put out₀ end₀ (numbered (slot-line setting image) 1 (take i row)) out end × (i ≤ count)
 
 abbrev μ-loop : tie.MeasureT-loop
 μ-loop image setting row count out₀ at end₀ i₀ out end i = count - i
 
 loop-holds : tie.Need-loop-holds Inv-loop μ-loop
-unfolding slot-lines
+unfolding numbered
 loop-holds c = (put-nothing _ _, omega arith)
 
 add-put-line : tie.Need-add-put-line Inv-loop μ-loop
@@ -40,11 +41,15 @@ loop-less : tie.Need-loop-less Inv-loop μ-loop
 loop-less c = search needs
 
 loop-again : tie.Need-loop-again Inv-loop μ-loop
-loop-again c = (
-  one-more-line (c .before .before .before .before .before .before .before .before .before .before .args .setting) (c .before .before .before .before .before .before .before .before .before .before .args .image .now) (c .before .before .before .before .before .before .before .before .before .before .args .row .now) (c .before .before .before .before .before .before .loop .i) (omega arith)
-      (c .before .before .before .before .before .before .loop .inv .0) (c .before .before .put-line .ensures),
-  omega arith,
-)
+loop-again c =
+    let line = c .before .before in
+    let at = line .before .before .before .before in
+    let a = at .before .before .before .before .args in (
+      one-more-text (slot-line (a .setting) (a .image .now)) 1 (a .row .now) (at .loop .i) (omega arith)
+          (at .loop .inv .0)
+          (rw (add-comm 1 (at .loop .i)) (line .put-line .ensures)),
+      omega arith,
+    )
 
 same-length : tie.Need-same-length Inv-loop μ-loop
 same-length c = keeps-length (c .before .loop .inv .0)

@@ -10,9 +10,9 @@ use lib.Dec.{eqb}
 use borrow.Author.Tests.{eqb-true, ne-eqb}
 use lib.ListN.{length, getD, set}
 use Rattle.rules.specs.Lists.{member, without}
-use Rattle.rules.specs.Pointers.{all-ones, one-more, slot-at, judged, gives, add-last, order}
+use Rattle.rules.specs.Pointers.{all-ones, all-zeros, one-more, slot-at, judged, gives, add-last, order}
 use Rattle.rules.proofs.Lists.Tests.{by-cases, clash, or-false}
-use Rattle.rules.proofs.Order.Ordering.{slot-named, all-ones-name-none, other-values-name, giving-names, naming-gives, without-appended-same, without-appended-other, member-of-without}
+use Rattle.rules.proofs.Order.Ordering.{slot-named, all-ones-name-none, zeros-name-none, zero-names-none, other-values-name, giving-names, naming-gives, without-appended-same, without-appended-other, member-of-without}
 
 -- ---- which slot starts at a value
 
@@ -25,7 +25,7 @@ none-some k h = let z : _≡_ {A = ℕ} 0 1 = cc in omega arith
 abbrev Starting : List ℕ → ℕ → ℕ → Type 0
 Starting starts v k = (k < length starts) × (getD starts k 0 ≡ v)
 
-slot-at-some : (starts : List ℕ) (v k : ℕ) → slot-at starts v ≡ some k → Starting starts v k
+pub slot-at-some : (starts : List ℕ) (v k : ℕ) → slot-at starts v ≡ some k → Starting starts v k
 unfolding slot-at one-more
 slot-at-some [] v k h = absurd (none-some k h)
 slot-at-some (a ∷ starts) v k h =
@@ -47,7 +47,9 @@ pub named-starts : (starts : List ℕ) (v k : ℕ)
 named-starts starts v k e =
     by-cases (all-ones v)
     (λ t. absurd (none-some k (sym (all-ones-name-none starts v t) ∙ e)))
-    (λ t. slot-at-some starts v k (sym (other-values-name starts v t) ∙ e))
+    (λ t. by-cases (all-zeros v)
+    (λ z. absurd (none-some k (sym (zeros-name-none starts v t z) ∙ e)))
+    (λ z. slot-at-some starts v k (sym (other-values-name starts v t z) ∙ e)))
 
 -- a value that no slot starts at names none
 pub names-none : (starts : List ℕ) (v : ℕ)
@@ -140,13 +142,12 @@ module _ (starts : List ℕ) (k : ℕ) where
       rw e (order-one-lower v w vs rest m (order-cleared vs rest c))
 
   -- every place of the slot cleared to 0
-  pub order-zeroed : slot-named starts 0 ≡ none
-      → (vs : List ℕ)
+  pub order-zeroed : (vs : List ℕ)
       → order starts (map (λ v. cond (gives k (judged starts v)) 0 v) vs) ≡ without k (order starts vs)
   unfolding order without add-last
-  order-zeroed dead [] = refl
-  order-zeroed dead (v ∷ vs) =
+  order-zeroed [] = refl
+  order-zeroed (v ∷ vs) =
       by-cases (gives k (judged starts v))
-      (λ t. rw (t, dead, giving-names starts k v t, order-zeroed dead vs) (add-last-same k (order starts vs)))
-      (λ t. rw (t, order-zeroed dead vs)
+      (λ t. rw (t, zero-names-none starts, giving-names starts k v t, order-zeroed vs) (add-last-same k (order starts vs)))
+      (λ t. rw (t, order-zeroed vs)
       (add-last-other k (slot-named starts v) (order starts vs) (names-other v t)))

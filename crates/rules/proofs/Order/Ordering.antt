@@ -1,6 +1,6 @@
 -- The slot that a pointer's value names, and the boot order once the lowest free place names a slot. Assumes nothing.
 use mathlib.Core.Path.{_≡_, refl, sym, ap, _∙_}
-use mathlib.Core.Bool.{Bool, true, false}
+use mathlib.Core.Bool.{Bool, true, false, cond}
 use mathlib.Core.List.{List, [], _∷_, _++_}
 use mathlib.Core.Option.{Option, none, some}
 use Prim.Native.Nat.{ℕ, zero, suc, _<_}
@@ -10,10 +10,10 @@ use lib.Dec.{eqb}
 use borrow.Author.Tests.{eqb-true, eqb-false, eq-eqb, ne-eqb}
 use lib.ListN.{length, set}
 use Rattle.rules.specs.Lists.{member, without}
-use Rattle.rules.specs.Pointers.{all-ones, slot-at, live-or-dead, judged, is-erased, slot-given, gives, add-last, order}
+use Rattle.rules.specs.Pointers.{all-ones, all-zeros, top-byte-erased, slot-at, live-or, judged, is-erased, slot-given, gives, add-last, order}
 use Rattle.rules.specs.Commands.{below, free-place}
 use Rattle.rules.specs.declared.Place.{Place}
-use Rattle.rules.specs.declared.Place.the-variants.{Erased, Live, Dead}
+use Rattle.rules.specs.declared.Place.the-variants.{Erased, Spent, Live, PartWritten, Stray}
 use Rattle.rules.proofs.Lists.Tests.{by-cases, clash}
 
 -- ---- the slot that a value names
@@ -21,18 +21,30 @@ use Rattle.rules.proofs.Lists.Tests.{by-cases, clash}
 abbrev pub slot-named : List ℕ → ℕ → Option ℕ
 slot-named starts v = slot-given (judged starts v)
 
-given-live : (o : Option ℕ) → slot-given (live-or-dead o) ≡ o
-unfolding slot-given live-or-dead
-given-live none = refl
-given-live (some k) = refl
+given-live : (v : ℕ) (test : Bool) (o : Option ℕ) → slot-given (live-or (cond test PartWritten (Stray v)) o) ≡ o
+unfolding slot-given live-or
+given-live v true none = refl
+given-live v false none = refl
+given-live v test (some k) = refl
 
 pub all-ones-name-none : (starts : List ℕ) (v : ℕ) → all-ones v ≡ true → slot-named starts v ≡ none
 unfolding slot-given judged
 all-ones-name-none starts v t = rw t
 
-pub other-values-name : (starts : List ℕ) (v : ℕ) → all-ones v ≡ false → slot-named starts v ≡ slot-at starts v
+pub zeros-name-none : (starts : List ℕ) (v : ℕ) → all-ones v ≡ false → all-zeros v ≡ true → slot-named starts v ≡ none
+unfolding slot-given judged
+zeros-name-none starts v f t = rw (f, t)
+
+pub zero-names-none : (starts : List ℕ) → slot-named starts 0 ≡ none
+unfolding all-ones all-zeros
+zero-names-none starts = zeros-name-none starts 0 refl refl
+
+pub other-values-name : (starts : List ℕ) (v : ℕ)
+    → all-ones v ≡ false
+    → all-zeros v ≡ false
+    → slot-named starts v ≡ slot-at starts v
 unfolding judged
-other-values-name starts v f = rw f (given-live (slot-at starts v))
+other-values-name starts v f z = rw (f, z) (given-live v (top-byte-erased v) (slot-at starts v))
 
 pub erased-names-none : (starts : List ℕ) (v : ℕ) → is-erased (judged starts v) ≡ true → slot-named starts v ≡ none
 unfolding is-erased slot-given
@@ -40,8 +52,10 @@ erased-names-none starts v = of (judged starts v)
   where
     of : (p : Place) → is-erased p ≡ true → slot-given p ≡ none
     of Erased t = refl
-    of Dead t = refl
+    of Spent t = refl
     of (Live s) t = absurd (clash false t refl)
+    of PartWritten t = refl
+    of (Stray w) t = refl
 
 pub giving-names : (starts : List ℕ) (k v : ℕ) → gives k (judged starts v) ≡ true → slot-named starts v ≡ some k
 unfolding gives slot-given
@@ -49,8 +63,10 @@ giving-names starts k v = of (judged starts v)
   where
     of : (p : Place) → gives k p ≡ true → slot-given p ≡ some k
     of Erased t = absurd (clash false t refl)
-    of Dead t = absurd (clash false t refl)
+    of Spent t = absurd (clash false t refl)
     of (Live s) t = ap {B = Option ℕ} some (sym (eqb-true k (s .0) t))
+    of PartWritten t = absurd (clash false t refl)
+    of (Stray w) t = absurd (clash false t refl)
 
 pub naming-gives : (starts : List ℕ) (k v : ℕ) → slot-named starts v ≡ some k → gives k (judged starts v) ≡ true
 unfolding gives slot-given
@@ -58,8 +74,23 @@ naming-gives starts k v = of (judged starts v)
   where
     of : (p : Place) → slot-given p ≡ some k → gives k p ≡ true
     of Erased e = absurd (let z : _≡_ {A = ℕ} 0 1 = cc in omega arith)
-    of Dead e = absurd (let z : _≡_ {A = ℕ} 0 1 = cc in omega arith)
+    of Spent e = absurd (let z : _≡_ {A = ℕ} 0 1 = cc in omega arith)
     of (Live s) e = let same : k ≡ s .0 = cc in eq-eqb k (s .0) same
+    of PartWritten e = absurd (let z : _≡_ {A = ℕ} 0 1 = cc in omega arith)
+    of (Stray w) e = absurd (let z : _≡_ {A = ℕ} 0 1 = cc in omega arith)
+
+-- a place is erased by its value alone
+pub erased-by-value : (starts : List ℕ) (v : ℕ) → is-erased (judged starts v) ≡ all-ones v
+unfolding judged is-erased
+erased-by-value starts v =
+    by-cases (all-ones v)
+    (λ t. rw t)
+    (λ t. by-cases (all-zeros v) (λ z. rw (t, z)) (λ z. rw (t, z, used (top-byte-erased v) (slot-at starts v))))
+  where
+    used : (test : Bool) (o : Option ℕ) → is-erased (live-or (cond test PartWritten (Stray v)) o) ≡ false
+    used true none = unfold live-or is-erased in refl
+    used false none = unfold live-or is-erased in refl
+    used test (some k) = unfold live-or is-erased in refl
 
 -- ---- a number left out of a list
 

@@ -1,4 +1,4 @@
--- Values that name no slot: 0, those above every image, and a start with its lowest bytes set to 0. Assumes nothing.
+-- Values that name no slot: those above every image, and a start with its lowest bytes set to 0. Assumes nothing.
 use mathlib.Core.Path.{_≡_, sym, ap₂, _∙_}
 use mathlib.Core.Bool.{Bool, true, false, _||_}
 use mathlib.Core.Logic.{_⊎_, inl, inr}
@@ -15,7 +15,7 @@ use Rattle.rules.specs.Lists.{member, without}
 use Rattle.rules.specs.Numbers.{longest}
 use Rattle.rules.specs.Commands.{half-cleared-names}
 use Rattle.rules.proofs.Lists.Tests.{by-cases, clash, or-false}
-use Rattle.rules.proofs.Order.Ordering.{slot-named, member-of-without}
+use Rattle.rules.proofs.Order.Ordering.{slot-named, zero-names-none, member-of-without}
 use Rattle.rules.proofs.Order.Clearing.{names-none}
 use Rattle.rules.proofs.Table.SlotStarts.{SlotStarts}
 use Rattle.rules.proofs.Lists.Words.{number, number-same}
@@ -23,9 +23,6 @@ use Rattle.rules.proofs.Lists.Words.{number, number-same}
 module _ (starts : List ℕ) (right : SlotStarts starts) where
   pub high-names-none : (v : ℕ) → longest ≤ v → slot-named starts v ≡ none
   high-names-none v h = names-none starts v (λ k l e. omega (arith, right .inside k l))
-
-  pub zero-names-none : slot-named starts 0 ≡ none
-  zero-names-none = names-none starts 0 (λ k l e. omega (arith, right .above-0 k l))
 
 -- ---- a value that no other slot starts at
 
@@ -139,7 +136,7 @@ module _ (starts : List ℕ) (right : SlotStarts starts) (k : ℕ) (hk : k < len
       let b7 = no-more 7 in
       let small = right .inside k hk in
       let gone : number 8 f′ ≡ 0 = omega arith in
-      rw gone (inr (zero-names-none starts right))
+      rw gone (inr (zero-names-none starts))
     where
       no-more : (j : ℕ) → f′ j ≤ f j
       no-more j = split (decLe (suc (suc (suc (suc n)))) j)

@@ -17,12 +17,12 @@ use Rattle.rules.proofs.Lists.Tests.{by-cases}
 use Rattle.rules.proofs.Steps.Programming.{steps-append}
 use Rattle.rules.proofs.Steps.Cutting.{Cut, cut-all, cut-append}
 use Rattle.rules.proofs.Steps.Frame.{Only, Range, only-none, only-then, only-wider}
-use Rattle.rules.proofs.Order.Ordering.{giving-names}
+use Rattle.rules.proofs.Order.Ordering.{giving-names, zero-names-none}
 use Rattle.rules.proofs.Order.Clearing.{Clearing, Cleared, none-cleared, named-starts}
 use Rattle.rules.proofs.Table.SlotStarts.{SlotStarts}
 use Rattle.rules.proofs.Lists.Words.{number-same, length-bytes-of, bytes-of-zero}
 use Rattle.rules.proofs.Pointers.Placing.{place-start, AllBelow, value-in, value-kept, part-placed, into-place-cut, into-place-done, part-only, part-byte}
-use Rattle.rules.proofs.Pointers.HalfCleared.{zero-names-none, Harmless, half-cleared-harmless}
+use Rattle.rules.proofs.Pointers.HalfCleared.{Harmless, half-cleared-harmless}
 
 pub giving-below : (count : ℕ) (starts : List ℕ) (k i : ℕ) (vs : List ℕ)
     → i + length vs ≤ count
@@ -202,7 +202,7 @@ module _ (g c offset count : ℕ) (room : offset + 8 * count ≤ block-size) (st
         (only-wider (λ x s. (omega arith, omega arith)) o),
     one-more-cleared i v 0 vs img′
         (below-kept i vs (zeroed i 8 img) img′ o ∙ zeroed-value i img (omega (arith, b .to-end)) (b .fits))
-        (inr (t, zero-names-none starts right)) r,
+        (inr (t, zero-names-none starts)) r,
   )
 
   pub clears-cut : (vs : List ℕ) (i : ℕ) (img : List ℕ)

@@ -14,19 +14,19 @@ use Rattle.rules.specs.Lists.{without}
 use Rattle.rules.specs.Bytes.{Bytes, block, block-size, bytes-of, erased-byte}
 use Rattle.rules.specs.Numbers.{longest}
 use Rattle.rules.specs.declared.Step.{Step}
-use Rattle.rules.specs.Pointers.{place-offset, place-count, values, places, erased-value, all-ones, slot-at, live-or-dead, judged, is-erased, order, pointers-stand}
+use Rattle.rules.specs.Pointers.{place-offset, place-count, values, places, erased-value, all-ones, judged, is-erased, order, pointers-stand}
 use Rattle.rules.specs.Steps.{steps}
 use Rattle.rules.specs.Commands.{free-place, into-place, append-steps, giving, into-places, clear-steps, half-cleared-names}
 use Rattle.rules.proofs.Lists.Tests.{by-cases, clash}
 use Rattle.rules.proofs.Steps.Cutting.{Cut, cut-all}
 use Rattle.rules.proofs.Steps.Frame.{Only, Range, StepsWithin, within-append, within-programs, within-wider}
 use Rattle.rules.proofs.Copies.CopyRead.{first-read}
-use Rattle.rules.proofs.Order.Ordering.{below-is-zero, below-is-suc, order-enabled}
+use Rattle.rules.proofs.Order.Ordering.{erased-by-value, below-is-zero, below-is-suc, order-enabled}
 use Rattle.rules.proofs.Order.Clearing.{order-with-same-name, order-cleared, order-zeroed}
 use Rattle.rules.proofs.Lists.Words.{length-values, length-bytes-of, all-ones-bytes}
 use Rattle.rules.proofs.Pointers.PointerHeader.{SameHeader, stand-alike, places-alike}
 use Rattle.rules.proofs.Pointers.Placing.{place-start, AllBelow, value-in, values-in, value-read, values-are, pointer-placed, pointer-cut}
-use Rattle.rules.proofs.Pointers.HalfCleared.{high-names-none, zero-names-none}
+use Rattle.rules.proofs.Pointers.HalfCleared.{high-names-none}
 use Rattle.rules.proofs.Pointers.PlacesCleared.{giving-below, Holding, HoldingToEnd, cleared-value, clears-cut, clears-done}
 use Rattle.rules.proofs.Pointers.InPlace.{GoesByBlock, AfterHeader, Copy0Cut, into-place-by-block, into-places-by-block, in-place-cut, in-place-equal, copy0-last}
 use Rattle.rules.proofs.Copies.PairCuts.{Two}
@@ -35,14 +35,8 @@ use Rattle.rules.proofs.Pointers.PointerPair.{AgreedPointers, both, old
 -- ---- the lowest free place is erased
 
 erased-is-all-ones : (starts : List ℕ) (v : ℕ) → is-erased (judged starts v) ≡ true → v ≡ erased-value
-unfolding judged all-ones
-erased-is-all-ones starts v h = by-cases (all-ones v)
-    (λ t. eqb-true v erased-value t)
-    (λ f. absurd (clash (is-erased (judged starts v)) h (rw f (live-or-dead-holds (slot-at starts v)))))
-  where
-    live-or-dead-holds : (o : Option ℕ) → is-erased (live-or-dead o) ≡ false
-    live-or-dead-holds none = unfold live-or-dead is-erased in refl
-    live-or-dead-holds (some k) = unfold live-or-dead is-erased in refl
+unfolding all-ones
+erased-is-all-ones starts v h = eqb-true v erased-value (sym (erased-by-value starts v) ∙ h)
 
 free-place-erased : (starts vs : List ℕ) (u : ℕ) → free-place starts vs ≡ u → u < length vs → getD vs u 0 ≡ erased-value
 unfolding free-place
@@ -274,7 +268,7 @@ module _ (agreed : AgreedPointers) where
         let zeroed = clears-done granule c0 offset count room starts right k hk allowed vs 0 mid (held mid m) in
         let ws : List ℕ = map (cleared-value granule c0 offset count room starts right k hk allowed) vs in
         ap (order starts) (values-from-0 end ws (rw (o .same-length) (fits0 mid m)) (length-map vs _) zeroed)
-        ∙ order-zeroed starts k (zero-names-none starts right) vs
+        ∙ order-zeroed starts k vs
 
     pub clearing-reorders :
         Reorders agreed (without k (old-order agreed)) (clear-steps c0 c1 offset (giving starts k 0 vs))

@@ -16,8 +16,8 @@ use Rattle.rules.specs.Bytes.{multiple, block-size}
 use Rattle.rules.specs.Numbers.{longest, length-right}
 use Rattle.rules.specs.declared.Setting.{Setting}
 use Rattle.rules.specs.Table.{Entry, entries, name, boot-info, six-names, has-name, is-fixed-name, no-entry, named, range-aligned, range-inside, ranges-apart, six-named, boot-info-at-0, is-slot, slots, slot-starts, starts}
-use Rattle.rules.specs.Pointers.{erased-value, all-ones, one-more, slot-at}
-use Rattle.rules.proofs.Lists.Tests.{and-true}
+use Rattle.rules.specs.Pointers.{erased-value, all-ones, all-zeros, one-more, slot-at}
+use Rattle.rules.proofs.Lists.Tests.{and-true, or-false}
 use Rattle.rules.proofs.Lists.Combinators.{all-at, all-of-none, all-of-kept, kept-pass, pairwise-of-kept, kept-no-more, first-of-all}
 use Rattle.rules.proofs.Order.Ordering.{slot-named, other-values-name}
 use Rattle.rules.proofs.Table.Standing.{Standing, at-most-127, length-entries, not-empty, a-block-long, ends-inside, Disjoint, disjoint, different-starts, off-named, named-disjoint, the-block, block-named, block-long}
@@ -153,14 +153,22 @@ module _ (s : Setting) (len : ℕ) (t : List ℕ) (fits : len ≤ longest) (st :
   kept-start : (k : ℕ) → k < length ss → getD (map start-of ss) k 0 < longest
   kept-start k l = rw (start-at ss k) (omega (arith, slot-not-empty k l, slot-inside k l))
 
+  kept-above-0 : (k : ℕ) → k < length ss → 0 < getD (map start-of ss) k 0
+  kept-above-0 k l = rw (start-at ss k) (slot-above-0 k l)
+
   not-all-ones : (v : ℕ) → v < longest → all-ones v ≡ false
   unfolding all-ones
   not-all-ones v h = ne-eqb v erased-value (λ e. omega arith)
+
+  not-all-zeros : (v : ℕ) → 0 < v → all-zeros v ≡ false
+  unfolding all-zeros
+  not-all-zeros v h = ne-eqb v 0 (λ e. omega arith)
 
   names-own : (k : ℕ) → k < length ss → slot-named (map start-of ss) (getD (map start-of ss) k 0) ≡ some k
   names-own k l =
       other-values-name (map start-of ss) (getD (map start-of ss) k 0)
       (not-all-ones (getD (map start-of ss) k 0) (kept-start k l))
+      (not-all-zeros (getD (map start-of ss) k 0) (kept-above-0 k l))
       ∙ finds-own ss (all-of-kept range-aligned is-slot (entries t) (st .rule5))
       (pairwise-of-kept ranges-apart is-slot (entries t) (st .rule7)) k l
 
@@ -170,7 +178,7 @@ module _ (s : Setting) (len : ℕ) (t : List ℕ) (fits : len ≤ longest) (st :
       let short : (k : ℕ) → k < length (map start-of ss) → k < length ss = λ k h. rw (length-map ss start-of) at h in
       record {
         own = λ k h. names-own k (short k h);
-        above-0 = λ k h. rw (start-at ss k) (slot-above-0 k (short k h));
+        above-0 = λ k h. kept-above-0 k (short k h);
         inside = λ k h. kept-start k (short k h);
         few = rw (length-map ss start-of)
             (omega (arith, kept-no-more is-slot (entries t), length-entries t, at-most-127 t (st .rule2)));

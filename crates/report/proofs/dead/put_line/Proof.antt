@@ -1,0 +1,69 @@
+-- `put_line` puts the line of a dead place, part by part, and nothing for one that is not dead. Assumes nothing.
+use mathlib.Core.Path.{sym, _∙_}
+use Rattle.walks.proofs.Joined.{failed, passed}
+use Rattle.text.proofs.Puts.{put-nothing, then}
+use Rattle.report.specs.Listing.{place-line}
+use borrow.Author.Needs.{needs}
+use Rattle.report.proofs.dead.put_line.Statement.{statement}
+use Rattle.report.proofs.dead.put_line.Tie as tie
+
+is-dead-requires : tie.Need-is-dead-requires
+is-dead-requires c κs = search needs
+
+returns : tie.Need-returns
+unfolding place-line
+returns c = rw (failed (c .before .is-dead .ensures) (c .if1 .taken)) (put-nothing _ _)
+
+put-decimal-requires : tie.Need-put-decimal-requires
+put-decimal-requires c κs = search needs
+
+put-byte-requires : tie.Need-put-byte-requires
+put-byte-requires c κs = search needs
+
+put-kind-requires : tie.Need-put-kind-requires
+put-kind-requires c κs = search needs
+
+put-byte-requires-2 : tie.Need-put-byte-requires-2
+put-byte-requires-2 c κs = search needs
+
+put-decimal-requires-2 : tie.Need-put-decimal-requires-2
+put-decimal-requires-2 c κs = search needs
+
+put-byte-requires-3 : tie.Need-put-byte-requires-3
+put-byte-requires-3 c κs = search needs
+
+same-length : tie.Need-same-length
+same-length c = search needs
+
+returns-2 : tie.Need-returns-2
+unfolding place-line
+returns-2 c =
+    let newline = c .before .before in
+    let value = newline .before .before .before .before in
+    let second-space = value .before .before .before .before in
+    let kind = second-space .before .before .before .before in
+    let first-space = kind .before .before .before .before in
+    let number = first-space .before .before .before .before in
+    let test = number .before .before in
+    rw (passed (test .before .is-dead .ensures) (test .if1 .left))
+    (then (number .put-decimal .ensures)
+    (then (first-space .put-byte .ensures)
+    (then (kind .put-kind .ensures)
+    (then (second-space .put-byte2 .ensures)
+    (then (value .put-decimal2 .ensures)
+    (newline .put-byte3 .ensures))))))
+
+pub put-line-spec : {M : Type 1} → statement M
+put-line-spec =
+    tie.close
+    (tie.spec
+    is-dead-requires
+    returns
+    put-decimal-requires
+    put-byte-requires
+    put-kind-requires
+    put-byte-requires-2
+    put-decimal-requires-2
+    put-byte-requires-3
+    same-length
+    returns-2)

@@ -1,0 +1,60 @@
+-- `listing_for` puts the line of a refusal, or the two parts by where things are. Assumes nothing.
+use Rattle.reading.proofs.Opening.{was-viewed, was-refused, opened}
+use Rattle.report.specs.Listing.{listing-by, listing-for}
+use Rattle.report.proofs.Lines.{with-inside}
+use borrow.Author.Needs.{needs}
+use Rattle.report.proofs.listing_for.Statement.{statement}
+use Rattle.report.proofs.listing_for.Tie as tie
+
+view-requires : tie.Need-view-requires
+view-requires c κs = search needs
+
+enum-known-seen : tie.Need-enum-known-seen
+enum-known-seen c = search needs
+
+put-refusal-requires : tie.Need-put-refusal-requires
+put-refusal-requires c κs = search needs
+
+enum-known-seen-2 : tie.Need-enum-known-seen-2
+enum-known-seen-2 c = search needs
+
+put-parts-requires : tie.Need-put-parts-requires
+put-parts-requires c κs =
+    let seen = c .before .before in
+    opened _ _ (seen .before .before .view .ensures) (seen .seen2 .given .1)
+
+same-length : tie.Need-same-length
+same-length c = search needs
+
+returns : tie.Need-returns
+unfolding listing-by listing-for
+returns c =
+    let put = c .before .before in
+    let seen = put .before .before .before in
+    with-inside
+    (rw (was-refused _ _ (seen .before .before .view .ensures) (seen .seen .given .1)) (put .put-refusal .ensures))
+
+same-length-2 : tie.Need-same-length-2
+same-length-2 c = search needs
+
+returns-2 : tie.Need-returns-2
+unfolding listing-by listing-for
+returns-2 c =
+    let put = c .before .before in
+    let seen = put .before .before .before in
+    with-inside
+    (rw (was-viewed _ _ (seen .before .before .view .ensures) (seen .seen2 .given .1)) (put .put-parts .ensures))
+
+pub listing-for-spec : {M : Type 1} → statement M
+listing-for-spec =
+    tie.close
+    (tie.spec
+    view-requires
+    enum-known-seen
+    put-refusal-requires
+    enum-known-seen-2
+    put-parts-requires
+    same-length
+    returns
+    same-length-2
+    returns-2)

@@ -1,0 +1,107 @@
+-- `put_parts` puts the header, a line for each slot of the order, then the dead places. Assumes nothing.
+use mathlib.Core.Path.{refl}
+use lib.ListN.{replicate}
+use Rattle.rules.specs.Copies.{boot-order}
+use Rattle.walks.specs.Entries.{most-entries}
+use Rattle.reading.proofs.Opening.{has-entries, has-pointers}
+use Rattle.text.proofs.Puts.{then}
+use Rattle.report.specs.Listing.{header, parts}
+use Rattle.report.proofs.Read.{walked, order-has-room, written-order}
+use borrow.Author.Needs.{needs}
+use Rattle.report.proofs.put_parts.Statement.{statement}
+use Rattle.report.proofs.put_parts.Tie as tie
+
+block-at-requires : tie.Need-block-at-requires
+block-at-requires c κs = search needs
+
+block-at-requires-2 : tie.Need-block-at-requires-2
+block-at-requires-2 c κs = search needs
+
+rows-of-requires : tie.Need-rows-of-requires
+rows-of-requires c κs =
+    let table = c .before in
+    has-entries (table .before .before .before .pre) _ _ (table .block-at .ensures) refl
+
+places-of-requires : tie.Need-places-of-requires
+places-of-requires c κs =
+    let pointers = c .before in
+    has-pointers (pointers .before .before .before .before .pre) _ (pointers .block-at2 .ensures)
+
+slice-aggregate-write-order : tie.Need-slice-aggregate-write-order
+slice-aggregate-write-order c = search needs
+
+write-order-requires : tie.Need-write-order-requires
+write-order-requires c κs =
+    let places = c .before in
+    let rows = places .before in
+    let pointers = rows .before in
+    let table = pointers .before in
+    let l = table .before .before .before .pre in (
+      walked l (table .block-at .ensures) (pointers .block-at2 .ensures) (rows .rows-of .ensures) (places .places-of .ensures),
+      order-has-room l (table .block-at .ensures) (pointers .block-at2 .ensures),
+    )
+
+slice-aggregate-put-bytes : tie.Need-slice-aggregate-put-bytes
+slice-aggregate-put-bytes c = search needs
+
+put-bytes-requires : tie.Need-put-bytes-requires
+put-bytes-requires c κs = search needs
+
+slice-aggregate-put-lines : tie.Need-slice-aggregate-put-lines
+slice-aggregate-put-lines c = search needs
+
+put-lines-requires : tie.Need-put-lines-requires
+put-lines-requires c κs =
+    let order = c .before .before .before .before .before .before .before .before in
+    let pointers = order .before .before .before .before in
+    let table = pointers .before in
+    written-order (table .before .before .before .pre) (table .block-at .ensures) (pointers .block-at2 .ensures)
+    (replicate most-entries 0) (order .write-order .ensures .0) (order .write-order .ensures .1) .0
+
+put-dead-requires : tie.Need-put-dead-requires
+put-dead-requires c κs =
+    let places = c .before .before .before .before .before .before .before .before .before .before .before .before .before .before in
+    let rows = places .before in
+    let pointers = rows .before in
+    let table = pointers .before in
+    walked (table .before .before .before .pre) (table .block-at .ensures) (pointers .block-at2 .ensures)
+    (rows .rows-of .ensures) (places .places-of .ensures)
+
+same-length : tie.Need-same-length
+same-length c = search needs
+
+returns : tie.Need-returns
+unfolding parts header boot-order
+returns c =
+    let dead = c .before .before in
+    let lines = dead .before .before .before .before in
+    let first = lines .before .before .before .before .before in
+    let order = first .before .before .before .before in
+    let pointers = order .before .before .before .before in
+    let table = pointers .before in
+    let l = table .before .before .before .pre in
+    rw (← table .block-at .ensures .0, ← pointers .block-at2 .ensures .0)
+    (then (first .put-bytes .ensures)
+    (then
+    (rw (written-order l (table .block-at .ensures) (pointers .block-at2 .ensures)
+    (replicate most-entries 0) (order .write-order .ensures .0) (order .write-order .ensures .1) .1)
+    at (lines .put-lines .ensures))
+    (dead .put-dead .ensures)))
+
+pub put-parts-spec : {M : Type 1} → statement M
+put-parts-spec =
+    tie.close
+    (tie.spec
+    block-at-requires
+    block-at-requires-2
+    rows-of-requires
+    places-of-requires
+    slice-aggregate-write-order
+    write-order-requires
+    slice-aggregate-put-bytes
+    put-bytes-requires
+    slice-aggregate-put-lines
+    put-lines-requires
+    put-dead-requires
+    same-length
+    returns)
