@@ -73,6 +73,7 @@ def cases():
         "one_byte_too_many": quarry() + b"\xff",
         "one_granule_too_many": quarry(length=69632),
         "no_table": image(tables=(damaged(TABLE, 0), damaged(TABLE, 4))),
+        "no_magic": image(tables=(damaged(TABLE, 0), damaged(TABLE, 1))),
         "no_pointers": image(pointers=(damaged(POINTERS, 3), damaged(POINTERS, 0x11))),
         "second_table": image(tables=(damaged(TABLE, 3), OTHER_TABLE)),
         "second_pointers": image(pointers=(damaged(POINTERS, 0x14), OTHER_POINTERS)),

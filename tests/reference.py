@@ -21,6 +21,7 @@ PLACES_AT = 0x20
 PLACE_COUNT = 508
 ERASED = b"\xff" * 8
 SIX = (b"BOOT_INFO", b"FACTORY_IMAGE", b"SPT0", b"SPT1", b"CPB0", b"CPB1")
+FOUR_BLOCKS = SIX[2:]
 LISTING_LIMIT = 65536
 
 Setting = namedtuple("Setting", "granule spt0 spt1")
@@ -72,34 +73,49 @@ def overlap(a, b):
     return a.start < b.start + b.length and b.start < a.start + a.length
 
 
-def table_stands(table, setting, image_length):
+NO_ENTRY = 127
+
+
+def first_wrong(found, right):
+    """The number of the first entry that does not pass, if there is one."""
+    return next((i for i, e in enumerate(found) if not right(e)), None)
+
+
+def first_clash(found, clash):
+    """The number of the first entry that clashes with an earlier one, if there is one."""
+    return next((i for i, e in enumerate(found) if any(clash(d, e) for d in found[:i])), None)
+
+
+def table_fault(table, setting, image_length):
+    """The first broken rule, 1 to 11, and the entry that breaks it; none if the copy stands."""
     if number(table[0:4]) != TABLE_MAGIC or number(table[4:8]) != 0:
-        return False
+        return 1, NO_ENTRY
     if not 1 <= number(table[8:12]) <= ENTRY_LIMIT:
-        return False
+        return 2, NO_ENTRY
     found = entries(table)
-    for e in found:
-        if not (e.field[0] != 0 and 0 in e.field):
-            return False
-        if e.start % 4096 or e.length % 4096 or e.length == 0:
-            return False
-        if e.start + e.length > image_length:
-            return False
-    for i, a in enumerate(found):
-        for b in found[i + 1 :]:
-            if name(a) == name(b) or overlap(a, b):
-                return False
-    if not all(any(name(e) == wanted for e in found) for wanted in SIX):
-        return False
-    if named(found, b"BOOT_INFO").start != 0:
-        return False
-    if named(found, b"SPT0").start != setting.spt0 or named(found, b"SPT1").start != setting.spt1:
-        return False
-    for wanted in (b"SPT0", b"SPT1", b"CPB0", b"CPB1"):
-        e = named(found, wanted)
-        if e.start % setting.granule or e.length < setting.granule:
-            return False
-    return True
+    told = {b"SPT0": setting.spt0, b"SPT1": setting.spt1}
+
+    def on_granules(e):
+        return e.start % setting.granule == 0 and e.length >= setting.granule
+
+    for rule, entry in (
+        (3, first_wrong(found, lambda e: e.field[0] != 0 and 0 in e.field)),
+        (4, first_clash(found, lambda d, e: name(d) == name(e))),
+        (5, first_wrong(found, lambda e: e.start % 4096 == 0 and e.length % 4096 == 0 and e.length != 0)),
+        (6, first_wrong(found, lambda e: e.start + e.length <= image_length)),
+        (7, first_clash(found, overlap)),
+        (8, None if set(SIX) <= {name(e) for e in found} else NO_ENTRY),
+        (9, first_wrong(found, lambda e: name(e) != b"BOOT_INFO" or e.start == 0)),
+        (10, first_wrong(found, lambda e: told.get(name(e), e.start) == e.start)),
+        (11, first_wrong(found, lambda e: name(e) not in FOUR_BLOCKS or on_granules(e))),
+    ):
+        if entry is not None:
+            return rule, entry
+    return None
+
+
+def table_stands(table, setting, image_length):
+    return table_fault(table, setting, image_length) is None
 
 
 def slots(table):
@@ -152,7 +168,7 @@ def boot_order(table, pointers):
 
 
 def view(image, setting):
-    """What is read of an image: refusals 1 to 5."""
+    """What is read of an image: refusals 1, 2, 3, 50, 51 and 5."""
     if len(image) % 4096 or not 4096 <= len(image) <= LENGTH_LIMIT:
         raise Refused(1)
     if setting.granule not in GRANULES:
@@ -167,7 +183,9 @@ def view(image, setting):
         if table_stands(table, setting, len(image)):
             break
     else:
-        raise Refused(4)
+        copies = [block(image, at) for at in (setting.spt0, setting.spt1)]
+        magics = [number(copy[0:4]) == TABLE_MAGIC for copy in copies]
+        raise Refused(51 if any(magics) else 50)
     cpb0 = named(entries(table), b"CPB0").start
     cpb1 = named(entries(table), b"CPB1").start
     for pointers_at in (cpb0, cpb1):

@@ -1,4 +1,5 @@
-//! Document 01 written a second time, independently of the updater, to compare the updater with.
+//! Document 01, with the landed requests of document 02, written a second time, independently of the
+//! updater, to compare the updater with.
 
 pub mod cases;
 pub mod comparison;

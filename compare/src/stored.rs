@@ -6,8 +6,10 @@ use crate::cases::random::Random;
 use crate::cases::scenario::write_script;
 use crate::cases::script::{Script, Writer};
 use crate::cases::tally::Tally;
+use crate::document::table::RULES;
+use crate::replay::hex;
 
-/// Longer random scripts are left out.
+/// Longer random scripts are left out, and such as print more.
 const SCRIPT_BYTES_MAX: usize = 6_000;
 /// All scripts together stay below this length.
 const STORED_BYTES_MAX: usize = 700_000;
@@ -22,7 +24,7 @@ pub fn stored_scripts(seed: u64) -> (Vec<Script>, Tally) {
         let seed = random.number();
         let mut trial = Tally::default();
         let script = random_script(seed, &mut trial);
-        if script_bytes(&script) <= SCRIPT_BYTES_MAX {
+        if script_bytes(&script).max(printed_bytes(&script)) <= SCRIPT_BYTES_MAX {
             bytes += script_bytes(&script);
             scripts.push(random_script(seed, &mut tally));
         }
@@ -44,13 +46,19 @@ fn script_bytes(script: &Script) -> usize {
     script.lines.iter().map(|line| line.len() + 1).sum()
 }
 
+fn printed_bytes(script: &Script) -> usize {
+    script.printed.iter().map(|printed| printed.text.len() + 1).sum()
+}
+
 fn worked_examples(tally: &mut Tally) -> Vec<Script> {
     let mut scripts = Vec::new();
-    for (title, flash, lines) in examples() {
+    let split = |lines: &str| lines.split("; ").map(str::to_string).collect();
+    let examples = examples().into_iter().map(|(title, flash, lines)| (title, flash, split(lines)));
+    for (title, flash, lines) in examples.chain([broken_rules()]) {
         let mut writer = Writer::new(tally, None);
         writer.line(format!("# {title}"));
         writer.build(&flash);
-        for line in lines.split("; ") {
+        for line in lines {
             writer.line(line);
         }
         writer.line("sum");
@@ -59,36 +67,128 @@ fn worked_examples(tally: &mut Tally) -> Vec<Script> {
     scripts
 }
 
-/// The cases of document 01 on the quarry image, and the vendor's example. In CPB0 of the quarry
+/// What breaks rule 1, 2 and so on of the quarry image of granule 32,768: offsets in the table and
+/// the bytes there. The entries at fault are 8, 8, 6, 8 and 7 for rules 3 to 7, then 0, 2 and 4 for
+/// rules 9 to 11.
+const BREAKING: [&[(usize, &[u8])]; RULES] = [
+    &[(0, &[0])],
+    &[(8, &[0])],
+    &[(288, &[0])],
+    &[(288, b"P1")],
+    &[(248, &[1])],
+    &[(314, &[8])],
+    &[(241, &[0x80])],
+    &[(32, b"b")],
+    &[(49, &[0x80]), (56, &[0, 0x80, 0, 0])],
+    &[(99, b"1"), (131, b"0")],
+    &[(185, &[0x70])],
+];
+
+/// Every rule broken in both copies, and in SPT0 with the next rule in SPT1.
+fn broken_rules() -> (&'static str, Flash, Vec<String>) {
+    let flash = Flash::quarry_wide(8);
+    let mut lines = Vec::new();
+    for (rule, breaking) in BREAKING.iter().enumerate() {
+        for other in [breaking, &BREAKING[(rule + 1) % RULES]] {
+            let both = flash.table_addresses().into_iter().zip([breaking, other]);
+            for (table, breaking) in both.clone() {
+                for (at, bytes) in *breaking {
+                    lines.push(format!("put {} {}", table + *at as u64, hex(bytes)));
+                }
+            }
+            lines.push("order".to_string());
+            for (table, breaking) in both {
+                for (at, bytes) in *breaking {
+                    let old = &flash.table[*at..*at + bytes.len()];
+                    lines.push(format!("put {} {}", table + *at as u64, hex(old)));
+                }
+            }
+        }
+    }
+    lines.push("order".to_string());
+    ("document 02, No. 8: every rule broken in both tables, then with the next one", flash, lines)
+}
+
+/// The cases of the documents on the quarry image, and the vendor's example. In CPB0 of the quarry
 /// image, places 2, 3 and 507 are at 24624, 24632 and 28664.
 fn examples() -> Vec<(&'static str, Flash, &'static str)> {
     let quarry = Flash::quarry;
+    let sent = || quarry().with_first_bytes();
     let used_up_to = |highest: usize| {
         let mut places = vec![0; highest + 1];
         places[..2].copy_from_slice(&[0x8000, 0x9000]);
-        Flash::quarry_with(65_536, 0x8000, 0x9000, &places)
+        Flash::quarry_with(65_536, 0x8000, 0x9000, &places).with_first_bytes()
     };
     let case_9 = || Flash::quarry_with(73_728, 0x1_1000, 0x1_0000, &[0x1_1000, 0x1_0000]);
-    let case_6 = "enable 2; cut 15; peek 24624 8; order; enable 2; repair; run 4097; enable 2; \
+    let case_6 = "enable 2; cut 15; peek 24624 8; order; enable 2; repair; run 4101; enable 2; \
         run 16; peek 24632 8; order";
-    let names = "rename 0 4e4e4e4e4e4e4e4e4e4e4e4e4e4e4e; run 8194; slot 0; \
+    let names = "rename 0 4e4e4e4e4e4e4e4e4e4e4e4e4e4e4e; run 8202; slot 0; \
         rename 0 4e4e4e4e4e4e4e4e4e4e4e4e4e4e4e4e";
+    let no_magic = "put 16384 00; put 20480 00; order; slot 0; enable 0; disable 0; rename 0 41; \
+        repair; put 20480 27; put 20484 01; order; put 20484 00; order";
+    let empty = "enable 1; enable 2; put 40959 00; put 45056 00; enable 2; enable 3; disable 1; \
+        put 45055 fe; enable 2; run 16; order; enable 2; put 45055 ff; enable 2; enable 1; enable 0; \
+        put 32768 00; enable 0";
+    let zeros = "rename 0 41; cut 1; peek 20480 5; order; repair; cut 2; peek 20480 5; repair; \
+        run 3; peek 20480 5; run 1; peek 20480 5; run 1; peek 20480 5; run 4096; sum; repair; \
+        rename 0 41; run 4101; peek 16384 5; slot 0; run 1; peek 16384 5; slot 0; cut 2; \
+        peek 16384 5; repair; torn 3 0 4096; peek 16384 5; slot 0; disable 2";
+    let torn =
+        "rename 0 41; torn 4 1 2 32 64 4090 100; peek 20480 6; peek 24570 8; order; enable 0; \
+        repair; run 3; torn 1 0 1; peek 20480 6; order; repair; run 4101; slot 0; rename 0 41; \
+        torn 4105 3 1; peek 16384 6; slot 0; repair; torn 4 0 0; repair; torn 4 0 4096; repair; \
+        torn 4 4096 1 18446744073709551615 18446744073709551615; peek 16384 6; repair; run 4101; \
+        slot 0; repair; enable 2; torn 0 0 4096; order; repair";
+    let wide =
+        "rename 1 42; torn 4 4096 61440 0 2; peek 327680 5; peek 331776 2; order; sum; repair; \
+        torn 4 8192 18446744073709551615; sum; repair; run 5; sum; run 4096; order; slot 1";
+    let kinds =
+        "put 24608 0000000000000000; put 26640 00a00000000000ff; put 28664 0100000000000000; \
+        list; put 24608 ffffffffffff00ff; put 26640 ffffffffffffff00; put 28664 0000000000000000; \
+        list; put 24608 0000000000000080; put 26640 0000000000000000; put 28664 feffffffffffffff; \
+        list; put 24616 0060000000000000; list; put 24608 ffffffffffffffff; \
+        put 24616 ffffffffffffffff; put 26640 ffffffffffffffff; put 28664 ffffffffffffffff; list";
+    let all_dead = "put 24608 00000000000000000080000000000100; copy 24608 24624 16; \
+        copy 24608 24640 32; copy 24608 24672 64; copy 24608 24736 128; copy 24608 24864 256; \
+        copy 24608 25120 512; copy 24608 25632 1024; copy 24608 26656 2016; list; order; \
+        put 26640 0090000000000000; list";
+    let half_cleared = "list; put 24624 0010010000000000; put 24632 0000000000000000; \
+        put 24640 0010000000000000; list; order";
+    let other_setting = "list; put 159784 00000800000000ff; put 163880 00000800000000ff; rename 0 20ff7e; run 8202; list";
+    let refused = "put 16384 00; put 20480 00; list; put 20480 27; put 20488 00; list; order; \
+        box 1 16384 20480; list; box 4096 16384 16384; list; length 0; list; image 65536 0; list";
     let vendor = "order; slot 0; slot 1; slot 2; enable 1; run 16; order";
     vec![
         ("document 01, case 1", quarry(), "order; order 2; order 1; slot 0"),
-        ("case 2", quarry(), "enable 2; run 16; peek 24624 8; order"),
-        ("case 3", quarry(), "enable 1; run 0"),
-        ("case 4", quarry(), "enable 0; run 16; peek 24624 8; order; disable 0; run 32; order"),
+        ("case 2, with no slot empty", sent(), "enable 2; run 16; peek 24624 8; order"),
+        ("case 3", sent(), "enable 1; run 0"),
+        ("case 4", sent(), "enable 0; run 16; peek 24624 8; order; disable 0; run 32; order"),
         ("case 5", quarry(), "disable 2; enable 3; disable 3; rename 3; slot 3"),
-        ("case 6", quarry(), case_6),
+        ("case 6", sent(), case_6),
         ("case 7, highest 506", used_up_to(506), "enable 2; run 16; peek 28664 8; order"),
-        ("case 7, highest 507", used_up_to(507), "enable 2; run 8194; peek 24624 8; order"),
-        ("case 8, after step 4,097", used_up_to(507), "enable 2; cut 4097; order"),
-        ("case 8, inside step 4,098", used_up_to(507), "enable 2; cut 4097 1; order"),
-        ("case 9, slot 0", case_9(), "disable 0; run 8194; order"),
+        ("case 7, highest 507", used_up_to(507), "enable 2; run 8202; peek 24624 8; order"),
+        ("case 8, after step 4,101", used_up_to(507), "enable 2; cut 4101; peek 24576 5; order"),
+        ("case 8, after step 4,102", used_up_to(507), "enable 2; cut 4102; peek 24576 5; order"),
+        ("case 9, slot 0", case_9(), "disable 0; run 8202; order"),
         ("case 9, slot 1", case_9(), "disable 1; run 16; order"),
         ("case 10, names", quarry(), names),
         ("case 10, an empty image", quarry(), "length 0; order; slot 0; repair"),
-        ("document 000, 5.2.3 and 6.5.1: P1 first, P2 added and enabled", Flash::vendor(), vendor),
+        (
+            "document 000, 5.2.3 and 6.5.1: P1 first, P2 added and enabled",
+            Flash::vendor().with_first_bytes(),
+            vendor,
+        ),
+        ("document 02, No. 8: wrong magics, then a wrong version", quarry(), no_magic),
+        ("document 02, No. 2: P2 first already, and P3, both empty", quarry(), empty),
+        ("document 02, No. 3: cuts among the zeros", sent(), zeros),
+        ("document 02, No. 3: torn erases", sent(), torn),
+        ("document 02, No. 3: torn erases of a large granule", Flash::quarry_wide(16), wide),
+        ("document 02, No. 7: case 1, no place dead", quarry(), "list"),
+        ("document 02, No. 7: case 6", sent(), "enable 2; cut 15; list; repair; run 4101; list"),
+        ("document 02, No. 7: each kind at place 0, 254 and 507", quarry(), kinds),
+        ("document 02, No. 7: every place dead", quarry(), all_dead),
+        ("document 02, No. 7: live, half-cleared and doubled places", case_9(), half_cleared),
+        ("document 02, No. 7: a listing of another setting", Flash::vendor(), other_setting),
+        ("document 02, No. 7: refused listings", quarry(), refused),
     ]
 }

@@ -1,6 +1,8 @@
-//! Every command cut after every step and inside every erase: the book of demand 3, tried whole.
+//! Every command cut after every step and inside every erase, which then has wiped any bytes of its
+//! granule: the book of demand 3, tried whole.
 
-use compare::cases::flash::{Flash, Partition};
+use compare::cases::flash::Flash;
+use compare::cases::random::Random;
 use compare::document::book::{Book, Outcome};
 use compare::document::commands::{start, Command};
 use compare::document::image::Geometry;
@@ -9,7 +11,7 @@ use compare::document::shortcut::Shortcut;
 use compare::document::steps::{Job, Step};
 
 fn quarry(places: &[u64]) -> Flash {
-    Flash::quarry_with(65_536, 0x8000, 0x9000, places)
+    Flash::quarry_with(65_536, 0x8000, 0x9000, places).with_first_bytes()
 }
 
 fn full() -> Flash {
@@ -19,18 +21,14 @@ fn full() -> Flash {
 }
 
 fn half_cleared() -> Flash {
-    Flash::quarry_with(73_728, 0x1_1000, 0x1_0000, &[0x1_0000, 0xA000, 0x1_1000])
+    let places = [0x1_0000, 0xA000, 0x1_1000];
+    Flash::quarry_with(73_728, 0x1_1000, 0x1_0000, &places).with_first_bytes()
 }
 
-/// The quarry's partitions with every start and length 16 times as large.
-fn wide_granule() -> Flash {
-    let wide = |partition: &Partition| Partition {
-        start: partition.start * 16,
-        length: partition.length * 16,
-        ..partition.clone()
-    };
-    let partitions = Flash::quarry().partitions.iter().map(wide).collect();
-    Flash::new(1_048_576, 65_536, partitions, &[0x8_0000, 0x9_0000, 0x8_0000])
+/// Flash of all three granules.
+fn flashes() -> Vec<Flash> {
+    let wide = |times| Flash::quarry_wide(times).with_first_bytes();
+    vec![quarry(&[0x8000, 0x9000, 0x8000]), full(), half_cleared(), wide(8), wide(16)]
 }
 
 fn commands() -> Vec<Command> {
@@ -41,6 +39,29 @@ fn commands() -> Vec<Command> {
     commands
 }
 
+/// Ranges of a granule: where each begins, and its length.
+type Ranges = Vec<(u64, u64)>;
+
+/// What an erase may have wiped: nothing, all, one byte of the first 32 or all but this one, the
+/// lowest or the highest bytes, every other byte, and each byte or not at random.
+fn choices(granule: u64) -> Vec<Ranges> {
+    let mut choices = vec![vec![], vec![(0, granule)]];
+    choices.extend((0..32).map(|byte| vec![(byte, 1)]));
+    choices.extend((0..32).map(|byte| vec![(0, byte), (byte + 1, granule)]));
+    for bytes in (1..5).chain((64..granule).step_by(64)) {
+        choices.push(vec![(0, bytes)]);
+        choices.push(vec![(granule - bytes, bytes)]);
+    }
+    for odd in [0, 1] {
+        choices.push((0..granule / 2).map(|pair| (2 * pair + odd, 1)).collect());
+    }
+    let mut random = Random::new(granule);
+    for _ in 0..64 {
+        choices.push((0..granule).map(|byte| (byte, random.below(2))).collect());
+    }
+    choices
+}
+
 /// How many cuts the book has a choice for, and how many not.
 #[derive(Default)]
 struct Found {
@@ -48,31 +69,40 @@ struct Found {
     broken: usize,
 }
 
-fn cut_everywhere(flash: &Flash, command: &Command, shortcut: Option<Shortcut>) -> Found {
-    let (image, geometry) = (flash.image(), flash.geometry());
+impl Found {
+    fn count(&mut self, fits: bool) {
+        if fits {
+            self.fitting += 1;
+        } else {
+            self.broken += 1;
+        }
+    }
+
+    fn add(&mut self, other: Found) {
+        self.fitting += other.fitting;
+        self.broken += other.broken;
+    }
+}
+
+/// Cuts a job everywhere and has each flash that this leaves judged.
+fn cut_everywhere(image: &[u8], job: &Job, judge: impl Fn(&[u8]) -> bool) -> Found {
     let mut found = Found::default();
-    let Ok(job) = start(&image, &geometry, command, shortcut) else {
-        return found;
+    let choices = choices(job.granule() as u64);
+    let mut cut = image.to_vec();
+    let mut cut_once = |steps: usize, ranges: &Ranges| {
+        cut.copy_from_slice(image);
+        job.clone().torn(&mut cut, steps, ranges);
+        found.count(judge(&cut));
     };
     for steps in 0..job.remaining() {
-        let granule = flash.granule;
-        let depths = match job.step_after(steps) {
-            Some(Step::Erase { .. }) => vec![0, 1, 2, 3, 4, 4095, 4096, granule],
-            _ => vec![0],
-        };
-        // A long row of bytes is tried at every 61st place and near its ends.
-        let near_end = steps % 4097 < 40 || steps % 4097 > 4080;
-        if depths.len() == 1 && !near_end && steps % 61 != 0 {
+        if let Some(Step::Erase { .. }) = job.step_after(steps) {
+            choices.iter().for_each(|ranges| cut_once(steps, ranges));
             continue;
         }
-        for inside in depths {
-            let mut cut = image.clone();
-            job.clone().cut(&mut cut, steps, inside);
-            if fits(&image, &cut, &geometry, command) {
-                found.fitting += 1;
-            } else {
-                found.broken += 1;
-            }
+        // A long row of bytes is tried at every 61st place and near its ends.
+        let near_end = steps % 4101 < 40 || steps % 4101 > 4080;
+        if near_end || steps % 61 == 0 {
+            cut_once(steps, &Vec::new());
         }
     }
     found
@@ -98,14 +128,14 @@ fn fits(before: &[u8], cut: &[u8], geometry: &Geometry, command: &Command) -> bo
     choice.is_some() && view.tables_agree() && view.pointers_agree()
 }
 
-fn all(shortcut: Option<Shortcut>) -> Found {
-    let flashes = [quarry(&[0x8000, 0x9000, 0x8000]), full(), half_cleared(), wide_granule()];
+/// Every command on one flash, cut everywhere.
+fn all_commands(flash: &Flash, shortcut: Option<Shortcut>) -> Found {
+    let (image, geometry) = (flash.image(), flash.geometry());
     let mut total = Found::default();
-    for flash in &flashes {
-        for command in commands() {
-            let found = cut_everywhere(flash, &command, shortcut);
-            total.fitting += found.fitting;
-            total.broken += found.broken;
+    for command in commands() {
+        if let Ok(job) = start(&image, &geometry, &command, shortcut) {
+            let judge = |cut: &[u8]| fits(&image, cut, &geometry, &command);
+            total.add(cut_everywhere(&image, &job, judge));
         }
     }
     total
@@ -113,15 +143,38 @@ fn all(shortcut: Option<Shortcut>) -> Found {
 
 #[test]
 fn the_book_has_a_choice_for_every_cut() {
-    let found = all(None);
-    assert_eq!(found.broken, 0);
-    assert!(found.fitting > 2000, "only {} cuts", found.fitting);
+    for flash in flashes() {
+        let found = all_commands(&flash, None);
+        assert_eq!(found.broken, 0);
+        assert!(found.fitting > 800, "only {} cuts", found.fitting);
+    }
 }
 
 #[test]
-fn three_shortcuts_break_the_book() {
-    use Shortcut::{ClearsBlindly, HighestDuplicateFirst, MagicFirst};
-    for shortcut in [ClearsBlindly, HighestDuplicateFirst, MagicFirst] {
-        assert!(all(Some(shortcut)).broken > 0, "{shortcut:?}");
+fn four_shortcuts_break_the_book() {
+    use Shortcut::{ClearsBlindly, HighestDuplicateFirst, MagicFirst, NoZeros};
+    for shortcut in [ClearsBlindly, HighestDuplicateFirst, MagicFirst, NoZeros] {
+        let broken = |flash: &Flash| all_commands(flash, Some(shortcut)).broken;
+        assert!(flashes()[..3].iter().map(broken).sum::<usize>() > 0, "{shortcut:?}");
+    }
+}
+
+/// A repair after a cut rename or rewriting enable, itself cut everywhere: what is read stays.
+#[test]
+fn a_cut_repair_changes_nothing_that_is_read() {
+    for flash in [full(), Flash::quarry_wide(8).with_first_bytes()] {
+        let geometry = flash.geometry();
+        let renamed = Command::Rename(1, b"ANOTHER".to_vec());
+        for (command, steps) in [(renamed.clone(), 5000), (renamed, 9), (Command::Enable(2), 4103)]
+        {
+            let mut image = flash.image();
+            let job = start(&image, &geometry, &command, None).expect("a job");
+            let steps = steps.min(job.remaining() - 1);
+            job.cut(&mut image, steps, 0);
+            let repair = start(&image, &geometry, &Command::Repair, None).expect("a repair");
+            assert!(repair.remaining() > 0);
+            let judge = |cut: &[u8]| fits(&image, cut, &geometry, &Command::Repair);
+            assert_eq!(cut_everywhere(&image, &repair, judge).broken, 0);
+        }
     }
 }

@@ -13,7 +13,8 @@
  *    1  image length not a multiple of 4,096 from 4,096 to 268,435,456
  *    2  granule not 4,096, 32,768 or 65,536
  *    3  the two addresses equal, not multiples of the granule, or too near the end of the image
- *    4  no copy of the table stands
+ *   50  no copy of the table stands, and neither begins with the magic
+ *   51  no copy of the table stands, and one begins with the magic
  *    5  no copy of the pointer block stands
  *    6  the copies of a pair disagree: repair first
  *    7  no such slot
@@ -29,7 +30,8 @@
  *   92  no such entry
  *   93  no such place
  *
- * docs/REFUSALS.md says what to do about each.
+ * They are listed in the order of checking. docs/REFUSALS.md says what to do about each; delunkpawi_table_faults tells
+ * what each copy of the table breaks after 50 or 51.
  */
 #ifndef DELUNKPAWI_H
 #define DELUNKPAWI_H
@@ -78,6 +80,11 @@ uint8_t delunkpawi_view(const uint8_t *image, size_t image_length, size_t granul
 uint8_t delunkpawi_copies(const uint8_t *image, size_t image_length, size_t granule, size_t spt0, size_t spt1,
                           uint8_t *spt0_stands, uint8_t *spt1_stands, uint8_t *cpb0_stands, uint8_t *cpb1_stands,
                           uint8_t *tables_agree, uint8_t *pointers_agree);
+
+/* For each of SPT0 and SPT1 the first broken rule, 1 to 11 in the order of docs/REFUSALS.md, and the number of the entry
+ * that breaks it, 127 where the rule is about no entry by itself; 0 and 127 for a copy that stands. Refused 1 to 3 only. */
+uint8_t delunkpawi_table_faults(const uint8_t *image, size_t image_length, size_t granule, size_t spt0, size_t spt1,
+                                uint8_t *spt0_rule, size_t *spt0_entry, uint8_t *spt1_rule, size_t *spt1_entry);
 
 /* How many entries the table read has, slots or not. They are numbered from 0. */
 uint8_t delunkpawi_entry_count(const uint8_t *image, size_t image_length, size_t granule, size_t spt0, size_t spt1,

@@ -3,6 +3,7 @@
 
 #include <stdio.h>
 
+#include "faults.h"
 #include "finder.h"
 #include "library.h"
 #include "status.h"
@@ -67,6 +68,12 @@ static void say_setting(const struct dump *dump, const struct options *options, 
     if (!options->base.is_given) doubt_base(dump, flash);
 }
 
+static int fail_with_faults(const char *path, uint8_t refused, const struct faults *faults) {
+    fail_refused(path, refused);
+    say_faults(faults);
+    return refused;
+}
+
 /* Both addresses are given. Where no base is, it is 0, or SPT0 if only that is read. */
 static int settle_given(struct flash *flash, const struct dump *dump, const struct options *options) {
     struct setting setting = {options->base.value, options->spt0.value, options->spt1.value};
@@ -74,13 +81,14 @@ static int settle_given(struct flash *flash, const struct dump *dump, const stru
     uint8_t refused = 0, refused_there = 0;
     int status = try_setting(flash, dump, granule, setting, &refused);
     if (status != DONE || refused == 0) return status;
+    struct faults faults = faults_of(flash, refused);
     if (options->base.is_given || setting.spt0 % 4096 != 0 || setting.spt0 > LENGTH_MAX || setting.spt0 == 0)
-        return fail_refused(dump->path, refused);
+        return fail_with_faults(dump->path, refused, &faults);
     flash_drop(flash);
     setting.base = setting.spt0;
     status = try_setting(flash, dump, granule, setting, &refused_there);
     if (status != DONE || refused_there == 0) return status;
-    return fail_refused(dump->path, refused);
+    return fail_with_faults(dump->path, refused, &faults);
 }
 
 static bool is_wanted(const struct options *options, struct setting setting) {
@@ -102,9 +110,11 @@ static int fail_none(const struct dump *dump, const struct proposals *proposals,
          proposals->count > 0 ? ". It refused these:" : "");
     for (size_t i = 0; i < proposals->count && listed < LISTED_MAX; i++) {
         struct flash flash;
+        struct faults faults = {0};
         if (!is_wanted(options, proposals->settings[i])) continue;
         if (try_setting(&flash, dump, granule, proposals->settings[i], &refused) == DONE)
-            list_setting(proposals->settings[i], refused), listed++;
+            list_setting(proposals->settings[i], refused), listed++, faults = faults_of(&flash, refused);
+        say_faults(&faults);
         flash_drop(&flash);
     }
     if (listed > 0) fail(SETTING, "what to do next: %s", refusal_next(refused));

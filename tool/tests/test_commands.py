@@ -114,7 +114,12 @@ class Refusals(Bench):
         self.refused(2, self.image, "--granule", "5000", "--list")
         self.refused(3, self.image, "--spt0", "0x4000", "--spt1", "0x4000", "--list")
         self.refused(3, self.image, *fixed, "--granule", "32768", "--list")
-        self.refused(4, self.image, "--spt0", "0x5000", "--spt1", "0x4000", "--list")
+        swapped = self.refused(51, self.image, "--spt0", "0x5000", "--spt1", "0x4000", "--list")
+        self.assertIn("SPT0 at 0x5000 breaks rule 10 at entry 2, whose bytes are at 0x5060: The entry SPT0 or SPT1", swapped.err)
+        self.assertIn("SPT1 at 0x4000 breaks rule 10 at entry 2, whose bytes are at 0x4060", swapped.err)
+        self.assertIn("give the addresses that the table has", swapped.err)
+        erased = self.refused(50, self.image, "--spt0", "0xc000", "--spt1", "0xd000", "--list")
+        self.assertIn("SPT0 at 0xc000 breaks rule 1: The magic or the version is wrong.", erased.err)
         flash = images.quarry()
         flash[0x6000] = flash[0x7000] = 0
         self.refused(5, self.put("pointers", flash), *fixed, "--list")

@@ -11,16 +11,13 @@ use compare::document::shortcut::Shortcut;
 use compare::{speed, stored};
 
 const USAGE: &str = "\
-compare run REPLAY [--seed N] [--commands N] [--fault 1..5]
-    compares the program REPLAY with the independent implementation; with --fault, one of
-    document 01's shortcuts is planted in the latter, and the two must disagree
+compare run REPLAY [--seed N] [--commands N] [--fault N]
+    compares the program REPLAY with the independent implementation; with --fault, a wrong
+    program of this number, from 1, is planted in the latter, and the two must disagree
 compare store DIRECTORY [--seed N]
     writes scripts to DIRECTORY/stdin and what they print to DIRECTORY/stdout
 compare speed
     measures order lists, starts and runs";
-
-/// Every refusal and every kind of job is tried at least this often.
-const LEAST: u64 = 100;
 
 fn main() -> ExitCode {
     let arguments: Vec<String> = env::args().skip(1).collect();
@@ -57,7 +54,7 @@ fn run(replay: &str, options: &[&str]) -> Result<bool, String> {
     let fault = option(options, "--fault", 0)?;
     let shortcut = Shortcut::numbered(fault as usize);
     if fault != 0 && shortcut.is_none() {
-        return Err("--fault wants a number from 1 to 5".to_string());
+        return Err(format!("--fault wants a number from 1 to {}", Shortcut::ALL.len()));
     }
     let settings = Settings {
         replay: replay.into(),
@@ -78,11 +75,14 @@ fn run(replay: &str, options: &[&str]) -> Result<bool, String> {
         println!("planted: {shortcut:?}; {}", if agree { "NOT NOTICED" } else { "noticed" });
         return Ok(!agree);
     }
-    let enough = report.tally.least() >= LEAST && report.tally.accepted() >= report.tally.refused();
-    if !enough {
-        println!("too few: each refusal and kind of job {LEAST} times, half accepted");
+    let mut too_few = report.tally.too_few();
+    if report.tally.accepted() < report.tally.refused() {
+        too_few.push("less than half of the commands accepted".to_string());
     }
-    Ok(agree && enough && report.tally.book_broken == 0)
+    for what in &too_few {
+        println!("too few: {what}");
+    }
+    Ok(agree && too_few.is_empty() && report.tally.book_broken == 0)
 }
 
 fn print_disagreement(first: &Disagreement) -> Result<(), String> {
@@ -107,5 +107,8 @@ fn store(directory: &Path, options: &[&str]) -> Result<bool, String> {
     write("stdin", &comparison::concatenated(&scripts))?;
     write("stdout", &printed)?;
     println!("{tally}");
-    Ok(tally.least() > 0)
+    for what in tally.untried() {
+        println!("not tried: {what}");
+    }
+    Ok(tally.untried().is_empty())
 }

@@ -4,7 +4,7 @@ use crate::cases::layout::random_name;
 use crate::cases::random::Random;
 use crate::document::commands::Command;
 use crate::document::reading::View;
-use crate::document::steps::{Job, REWRITE_STEPS};
+use crate::document::steps::{Job, Step, REWRITE_STEPS, REWRITE_STEPS_FROM_ERASE};
 use crate::document::table::{FIXED_NAMES, NAME_BYTES};
 use crate::replay::Session;
 
@@ -82,7 +82,8 @@ fn new_name(random: &mut Random, view: &View, slot: u32) -> Vec<u8> {
 pub fn random_budget(random: &mut Random, remaining: usize) -> u64 {
     let remaining = remaining as u64;
     let rewrite = REWRITE_STEPS as u64;
-    let borders = [0, 1, 2, 7, 8, 9, 15, 16, rewrite - 1, rewrite, rewrite + 1, 2 * rewrite];
+    let borders =
+        [0, 1, 2, 3, 4, 5, 7, 8, 9, 15, 16, rewrite - 1, rewrite, rewrite + 1, 2 * rewrite];
     match random.below(100) {
         0..=24 => random.pick(&borders),
         25..=54 => random.below(remaining.max(1)),
@@ -93,32 +94,88 @@ pub fn random_budget(random: &mut Random, remaining: usize) -> u64 {
     }
 }
 
-/// Where to cut a job that has steps left: after how many, and how far inside an erase.
-pub fn random_cut(random: &mut Random, job: &Job) -> (usize, Option<u64>) {
-    let steps = random_cut_steps(random, job.remaining());
-    let granule = job.granule() as u64;
-    let anywhere = random.between(0, granule);
-    let depths = [0, 1, 2, 3, 4, 5, 32, 4095, 4096, 4097, granule - 1, granule, granule + 1];
-    let inside = match random.below(10) {
-        0 | 1 => None,
-        2..=7 => Some(random.pick(&depths)),
-        _ => Some(random.pick(&[anywhere, anywhere, u64::MAX])),
-    };
-    (steps, inside)
+/// Where the power fails: after how many steps, and what an erase that comes next has wiped.
+pub struct Cut {
+    pub steps: usize,
+    pub inside: Inside,
 }
 
-/// Fewer steps than remain: often just before an erase, often near the end.
+pub enum Inside {
+    Nothing,
+    /// The granule's lowest bytes.
+    Lowest(u64),
+    /// Ranges of the granule: where each begins, and its length.
+    Ranges(Vec<(u64, u64)>),
+}
+
+/// Where to cut a job that has steps left.
+pub fn random_cut(random: &mut Random, job: &Job) -> Cut {
+    let steps = random_cut_steps(random, job.remaining());
+    let granule = job.granule() as u64;
+    let inside = match random.below(20) {
+        0 => Inside::Nothing,
+        1..=3 => Inside::Lowest(random_depth(random, granule)),
+        _ if random.percent(10) || matches!(job.step_after(steps), Some(Step::Erase { .. })) => {
+            Inside::Ranges(random_ranges(random, granule))
+        }
+        _ => Inside::Nothing,
+    };
+    Cut { steps, inside }
+}
+
+fn random_depth(random: &mut Random, granule: u64) -> u64 {
+    let anywhere = random.between(0, granule);
+    let depths = [0, 1, 2, 3, 4, 5, 32, 4095, 4096, 4097, granule - 1, granule, granule + 1];
+    match random.below(10) {
+        0..=6 => random.pick(&depths),
+        _ => random.pick(&[anywhere, anywhere, u64::MAX]),
+    }
+}
+
+/// What of a granule is wiped: a few bytes of the header, all but one of them, the lowest or the
+/// highest, every other one, any ranges.
+fn random_ranges(random: &mut Random, granule: u64) -> Vec<(u64, u64)> {
+    let in_header = random.below(32);
+    let depth = random_depth(random, granule);
+    match random.below(100) {
+        0..=14 => vec![(in_header, 1)],
+        15..=29 => vec![(0, in_header), (in_header + 1, u64::MAX)],
+        30..=44 => (0..4).map(|byte| (byte, random.below(2))).collect(),
+        45..=54 => vec![(depth, granule)],
+        55..=59 => vec![(0, depth)],
+        60..=64 => {
+            let odd = random.below(2);
+            (0..40).map(|byte| (2 * byte + odd, 1)).collect()
+        }
+        65..=68 => (0..200).map(|byte| (byte, random.below(2))).collect(),
+        // A line of almost the length that is allowed.
+        69 => (0..2000).map(|byte| (byte, random.below(2))).collect(),
+        70..=74 => {
+            let lengths = [0, 1, granule, u64::MAX];
+            vec![(random.pick(&[granule - 1, granule, u64::MAX]), random.pick(&lengths))]
+        }
+        _ => {
+            let bound = random.pick(&[8, 600, granule]);
+            let ranges = 0..random.between(1, 8);
+            ranges.map(|_| (random.below(granule), random.below(bound))).collect()
+        }
+    }
+}
+
+/// Fewer steps than remain: often just before an erase, often near the end or among the zeros.
 fn random_cut_steps(random: &mut Random, remaining: usize) -> usize {
-    let erases: Vec<usize> = [REWRITE_STEPS, 2 * REWRITE_STEPS]
+    let erases: Vec<usize> = [REWRITE_STEPS_FROM_ERASE, REWRITE_STEPS + REWRITE_STEPS_FROM_ERASE]
         .iter()
         .filter_map(|&steps| remaining.checked_sub(steps))
         .collect();
-    if !erases.is_empty() && random.percent(40) {
-        return random.pick(&erases);
+    if !erases.is_empty() && random.percent(75) {
+        let zeros_left = random.weighted(&[(90, 0), (5, 1), (3, 2), (2, 3)]);
+        return random.pick(&erases).saturating_sub(zeros_left);
     }
     if random.percent(50) {
         return random.index(remaining);
     }
-    let before_end = random.pick(&[1, 2, 4, 5, 6, REWRITE_STEPS - 1, REWRITE_STEPS + 1, remaining]);
+    let before_end = [1, 2, 4, 5, 6, REWRITE_STEPS_FROM_ERASE - 1, REWRITE_STEPS + 1, remaining];
+    let before_end = random.pick(&before_end) + random.pick(&[0, 0, REWRITE_STEPS]);
     remaining.saturating_sub(before_end).min(remaining - 1)
 }

@@ -1,11 +1,14 @@
-//! Damage to a table or a pointer block: every judged field, and some that are not judged.
+//! Damage to a table or a pointer block: every judged field, some that are not judged, and such as
+//! breaks a rule of the table.
 
 use crate::cases::flash::Flash;
 use crate::cases::layout::{random_value, slot_starts};
 use crate::cases::random::Random;
 use crate::document::image::BLOCK_BYTES;
 use crate::document::pointers::{place_offset, PLACES};
-use crate::document::table::{ENTRIES_MAX, ENTRIES_OFFSET, ENTRY_BYTES, FIXED_NAMES, NAME_BYTES};
+use crate::document::table::{
+    ENTRIES_MAX, ENTRIES_OFFSET, ENTRY_BYTES, FIXED_NAMES, NAME_BYTES, RULES,
+};
 
 /// Bytes to store, each with its offset in the block.
 pub type Damage = Vec<(usize, Vec<u8>)>;
@@ -43,6 +46,73 @@ pub fn table_damage(random: &mut Random, flash: &Flash) -> Damage {
         17 => vec![(entry_offset(number) + FLAGS, vec![random.byte()])],
         18 => vec![(12 + random.index(20), random.bytes(1))],
         _ => vec![(entry_offset(random.index(127)) + random.index(ENTRY_BYTES), random.bytes(1))],
+    }
+}
+
+/// Damage that mostly breaks this rule of the table first; often in several entries, sometimes a
+/// later rule as well.
+pub fn rule_damage(random: &mut Random, flash: &Flash, rule: usize) -> Damage {
+    let times = random.weighted(&[(50, 1), (30, 2), (20, 3)]);
+    let mut damage = Damage::new();
+    for _ in 0..times {
+        damage.extend(breaking(random, flash, rule));
+    }
+    if rule < RULES && random.percent(30) {
+        let later = random.between(rule as u64 + 1, RULES as u64) as usize;
+        damage.extend(breaking(random, flash, later));
+    }
+    damage
+}
+
+fn breaking(random: &mut Random, flash: &Flash, rule: usize) -> Damage {
+    let number = random.index(flash.partitions.len());
+    let at = entry_offset(number);
+    match rule {
+        1 if random.percent(60) => {
+            let byte = random.index(4);
+            vec![(byte, vec![flash.table[byte] ^ 1 << random.below(8)])]
+        }
+        1 => vec![(4 + random.index(4), vec![random.between(1, 255) as u8])],
+        2 => {
+            let count: u32 = random.pick(&[0, 128, 129, u32::MAX, 0x0100_0000]);
+            vec![(8, count.to_le_bytes().to_vec())]
+        }
+        3 if random.percent(50) => vec![(at, vec![0])],
+        3 => vec![(at, vec![b'n'; NAME_BYTES])],
+        4 => same_name(random, flash, number),
+        5 => match random.below(3) {
+            0 => vec![(at + START, vec![random.between(1, 255) as u8])],
+            1 => vec![(at + LENGTH, vec![random.between(1, 255) as u8])],
+            _ => vec![(at + LENGTH, vec![0; 4])],
+        },
+        6 if random.percent(50) => {
+            let past_end = flash.image_length as u64 - flash.partitions[number].start + 4096;
+            vec![(at + LENGTH, (past_end as u32).to_le_bytes().to_vec())]
+        }
+        6 => {
+            let end = flash.image_length as u64;
+            let start = random.pick(&[end, 1 << 32, 1 << 63, u64::MAX - 4095]);
+            vec![(at + START, start.to_le_bytes().to_vec())]
+        }
+        7 => {
+            let other = &flash.partitions[random.index(flash.partitions.len())];
+            let mut damage = vec![(at + START, other.start.to_le_bytes().to_vec())];
+            if random.percent(50) {
+                damage.push((at + LENGTH, other.length.to_le_bytes().to_vec()));
+            }
+            damage
+        }
+        8 => fixed_name_damage(random, flash),
+        9 => swapped_with(random, flash, FIXED_NAMES[0]),
+        10 => {
+            let name = random.pick(&FIXED_NAMES[2..4]);
+            swapped_with(random, flash, name)
+        }
+        _ if random.percent(70) => block_damage(random, flash),
+        _ => {
+            let name = random.pick(&FIXED_NAMES[4..]);
+            swapped_with(random, flash, name)
+        }
     }
 }
 
@@ -126,7 +196,13 @@ fn fixed_name_damage(random: &mut Random, flash: &Flash) -> Damage {
 
 /// Two entries with each other's name, one of them a fixed one: all else stays right.
 fn swapped_names(random: &mut Random, flash: &Flash) -> Damage {
-    let first = number_of(flash, random.pick(&FIXED_NAMES));
+    let name = random.pick(&FIXED_NAMES);
+    swapped_with(random, flash, name)
+}
+
+/// The entry of this name and another one with each other's name.
+fn swapped_with(random: &mut Random, flash: &Flash, name: &[u8]) -> Damage {
+    let first = number_of(flash, name);
     let second = if random.percent(40) {
         number_of(flash, random.pick(&FIXED_NAMES))
     } else {

@@ -19,6 +19,9 @@ const LINES: &[&str] = &[
     "order 0x3",
     "order\t3",
     "order\r",
+    "list 1",
+    "list ",
+    "lists",
     "slot",
     "slot 4294967296",
     "slot 1 2",
@@ -40,6 +43,10 @@ const LINES: &[&str] = &[
     "cut",
     "cut 0",
     "cut 0 0",
+    "cut 0 0 0",
+    "torn",
+    "torn 0",
+    "torn 0 0 1",
     "peek",
     "peek 0",
     "peek 65536 1",
@@ -67,11 +74,20 @@ const LINES: &[&str] = &[
     "dumps 0 1 0 65537",
 ];
 
-/// Lines that give the quarry image a current job, and then one that is in error.
+/// Lines that give the quarry image, no slot of which is empty, a current job, and then one that is
+/// in error.
 const AFTER_JOB: &[(&[&str], &str)] = &[
     (&["enable 2"], "cut 16"),
     (&["enable 2"], "cut 18446744073709551615 1"),
     (&["enable 2", "run 10"], "cut 6"),
+    (&["enable 2"], "torn 16 0 1"),
+    (&["enable 2"], "torn 0"),
+    (&["enable 2"], "torn 0 1"),
+    (&["enable 2"], "torn 0 1 2 3"),
+    (&["rename 0 41"], "torn 4 0 18446744073709551616"),
+    (&["rename 0 41"], "torn 8202 0 1"),
+    (&["rename 0 41", "torn 8201 0 1"], "run 1"),
+    (&["enable 2"], "cut 0 0 1"),
     (&["enable 2", "run 16"], "cut 0"),
     (&["enable 1"], "cut 0 1"),
     (&["enable 2", "cut 3"], "run 1"),
@@ -82,7 +98,7 @@ const AFTER_JOB: &[(&[&str], &str)] = &[
 pub fn write_error(random: &mut Random, writer: &mut Writer) {
     if random.percent(20) {
         let (lines, error) = random.pick(AFTER_JOB);
-        writer.build(&Flash::quarry());
+        writer.build(&Flash::quarry().with_first_bytes());
         for line in lines {
             writer.line(*line);
         }

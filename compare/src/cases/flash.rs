@@ -1,5 +1,6 @@
 //! Flash images made to order, as bytes and as the script lines that build them.
 
+use crate::cases::layout::slot_starts;
 use crate::document::image::{Geometry, BLOCK_BYTES, ERASED};
 use crate::document::pointers::{self, PLACE_BYTES};
 use crate::document::table::{self, ENTRIES_OFFSET, ENTRY_BYTES, NAME_BYTES};
@@ -18,8 +19,10 @@ pub struct Partition {
 pub struct Flash {
     pub image_length: usize,
     pub granule: u64,
-    /// The byte outside the four blocks.
+    /// The byte outside the four blocks, but for the contents.
     pub fill: u8,
+    /// Bytes inside slots, each with their address.
+    pub contents: Vec<(u64, Vec<u8>)>,
     pub partitions: Vec<Partition>,
     pub table: [u8; BLOCK_BYTES],
     pub pointers: [u8; BLOCK_BYTES],
@@ -36,7 +39,15 @@ impl Flash {
     ) -> Flash {
         let table = table_block(&partitions);
         let pointers = pointer_block(places);
-        Flash { image_length, granule, fill: ERASED, partitions, table, pointers }
+        let contents = Vec::new();
+        Flash { image_length, granule, fill: ERASED, contents, partitions, table, pointers }
+    }
+
+    /// With a first byte of 0 in every slot.
+    pub fn with_first_bytes(mut self) -> Flash {
+        let starts = slot_starts(&self.partitions);
+        self.contents.extend(starts.into_iter().map(|start| (start, vec![0])));
+        self
     }
 
     /// The quarry image of document 01.
@@ -60,6 +71,24 @@ impl Flash {
             slot("P3", 0xA000),
         ];
         Flash::new(image_length, 4096, partitions, places)
+    }
+
+    /// The quarry image with every start, length and place this many times as large, and the
+    /// granule too.
+    pub fn quarry_wide(times: u32) -> Flash {
+        let wide = |partition: &Partition| Partition {
+            start: partition.start * u64::from(times),
+            length: partition.length * times,
+            ..partition.clone()
+        };
+        let quarry = Flash::quarry();
+        let places = [0x8000, 0x9000].map(|start| start * u64::from(times));
+        Flash::new(
+            quarry.image_length * times as usize,
+            quarry.granule * u64::from(times),
+            quarry.partitions.iter().map(wide).collect(),
+            &places,
+        )
     }
 
     /// The image of the vendor's `rsu list` (document 000, 5.2.3), with the slots' starts and
@@ -104,6 +133,9 @@ impl Flash {
         for (address, block) in tables.into_iter().chain(pointers) {
             image[address as usize..][..BLOCK_BYTES].copy_from_slice(block);
         }
+        for (address, bytes) in &self.contents {
+            image[*address as usize..][..bytes.len()].copy_from_slice(bytes);
+        }
         image
     }
 
@@ -119,6 +151,9 @@ impl Flash {
         lines.push(format!("copy {spt0} {spt1} {BLOCK_BYTES}"));
         lines.extend(put_lines(cpb0, &self.pointers, self.fill));
         lines.push(format!("copy {cpb0} {cpb1} {BLOCK_BYTES}"));
+        for (address, bytes) in &self.contents {
+            lines.extend(put_lines(*address, bytes, self.fill));
+        }
         lines
     }
 }

@@ -112,8 +112,8 @@ fn write_cut(random: &mut Random, writer: &mut Writer) -> Outcome {
     }
     if random.percent(90) {
         let job = writer.session.job.as_ref().expect("the job just started");
-        let (steps, inside) = random_cut(random, job);
-        writer.cut(steps, inside);
+        let cut = random_cut(random, job);
+        writer.cut(&cut);
     }
     Outcome::Cut
 }
@@ -128,6 +128,9 @@ fn write_questions(random: &mut Random, writer: &mut Writer) {
     }
     if random.percent(40) {
         writer.line("sum");
+    }
+    if random.percent(6) {
+        writer.line("list");
     }
     let Some(view) = view(writer) else {
         return;

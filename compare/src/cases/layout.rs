@@ -5,7 +5,7 @@ use std::collections::HashSet;
 use crate::cases::flash::{Flash, Partition};
 use crate::cases::random::Random;
 use crate::document::image::{BLOCK_BYTES, ERASED, GRANULES};
-use crate::document::pointers::{ERASED_PLACE, PLACES};
+use crate::document::pointers::{judge, ERASED_PLACE, PLACES};
 use crate::document::table::{ENTRIES_MAX, ENTRIES_OFFSET, ENTRY_BYTES, FIXED_NAMES, NAME_BYTES};
 use crate::replay::IMAGE_BYTES_MAX;
 
@@ -28,6 +28,7 @@ pub fn random_flash(random: &mut Random) -> Flash {
     let mut flash = Flash::new(image_length, granule, partitions, &places);
     flash.fill = if random.percent(50) { ERASED } else { random.byte() };
     fill_unjudged(random, &mut flash);
+    fill_slots(random, &mut flash);
     flash
 }
 
@@ -179,6 +180,25 @@ pub fn random_value(random: &mut Random, starts: &[u64]) -> u64 {
     }
 }
 
+/// A spent, part-written or stray value of a place, each as often.
+pub fn dead_value(random: &mut Random, partitions: &[Partition]) -> u64 {
+    let starts = slot_starts(partitions);
+    let start = partitions[random.index(partitions.len())].start;
+    let number = random.number();
+    loop {
+        let value = match random.below(3) {
+            0 => 0,
+            1 => {
+                random.pick(&[start | u64::MAX << 56, start | u64::MAX << 24, number | 0xFF << 56])
+            }
+            _ => random.pick(&[start, start + 1, number, number >> 8, 1, u64::MAX >> 8, 1 << 63]),
+        };
+        if judge(value, &starts).is_dead() {
+            return value;
+        }
+    }
+}
+
 /// Puts random bytes into what document 01 does not judge.
 fn fill_unjudged(random: &mut Random, flash: &mut Flash) {
     if random.percent(30) {
@@ -205,5 +225,33 @@ fn fill_unjudged(random: &mut Random, flash: &mut Flash) {
             let after = zero + 1..at + NAME_BYTES;
             flash.table[after.clone()].copy_from_slice(&random.bytes(after.len()));
         }
+    }
+}
+
+/// Puts something into most slots. An empty slot's first 4,096 bytes are 0xFF; others have a byte of
+/// another value there, often the first one, sometimes only the last.
+fn fill_slots(random: &mut Random, flash: &mut Flash) {
+    let block = BLOCK_BYTES as u64;
+    for partition in flash.partitions.iter().filter(|partition| is_slot(partition)) {
+        let empty = random.percent(15);
+        if flash.fill != ERASED {
+            let erased = match random.below(100) {
+                _ if empty => BLOCK_BYTES,
+                0..=2 => BLOCK_BYTES - 1,
+                _ => continue,
+            };
+            flash.contents.push((partition.start, vec![ERASED; erased]));
+            continue;
+        }
+        let offset = match random.below(100) {
+            // What follows is not looked at.
+            0..=29 if empty && u64::from(partition.length) > block => block,
+            _ if empty => continue,
+            0..=59 => 0,
+            60..=74 => block - 1,
+            _ => random.below(block),
+        };
+        let byte = random.weighted(&[(70, 0), (15, 0xFE), (15, 0x7F)]);
+        flash.contents.push((partition.start + offset, vec![byte]));
     }
 }

@@ -3,14 +3,16 @@
 use crate::cases::arguments::{
     any_command, random_budget, random_command, random_cut, random_slot,
 };
-use crate::cases::damage::{pointer_damage, table_damage, Damage};
+use crate::cases::damage::{pointer_damage, rule_damage, table_damage, Damage};
 use crate::cases::flash::Flash;
 use crate::cases::history::write_history;
-use crate::cases::layout::random_flash;
+use crate::cases::layout::{dead_value, random_flash, random_value, slot_starts};
 use crate::cases::random::Random;
 use crate::cases::script::Writer;
 use crate::document::image::BLOCK_BYTES;
+use crate::document::pointers::{place_offset, PLACES, PLACES_OFFSET, PLACE_BYTES};
 use crate::document::steps::Step;
+use crate::document::table::RULES;
 use crate::replay::{hex, Answer, IMAGE_BYTES_MAX};
 
 /// Writes one script of a random kind.
@@ -20,10 +22,12 @@ pub fn write_script(random: &mut Random, writer: &mut Writer) {
             let items = random.between(6, 16);
             write_history(random, writer, items);
         }
-        49..=79 => write_damaged(random, writer),
+        49..=71 => write_damaged(random, writer),
+        72..=79 => write_broken_rules(random, writer),
         80..=86 => write_wrong_geometry(random, writer),
         87..=92 => write_wrong_length(random, writer),
-        93..=96 => write_other_writer(random, writer),
+        93..=94 => write_other_writer(random, writer),
+        95..=97 => write_listings(random, writer),
         _ => write_dumps(random, writer),
     }
 }
@@ -36,6 +40,54 @@ fn write_damaged(random: &mut Random, writer: &mut Writer) {
     for _ in 0..rounds {
         damage_some(random, writer, &flash);
         write_everything(random, writer);
+    }
+}
+
+/// Both table copies broken, each by a rule, and one reader or command or several. The copies are
+/// mended before the next two rules.
+fn write_broken_rules(random: &mut Random, writer: &mut Writer) {
+    let mut flash = random_flash(random);
+    // Rule 11 can be broken on the larger granules alone.
+    while flash.granule == BLOCK_BYTES as u64 && random.percent(50) {
+        flash = random_flash(random);
+    }
+    writer.build(&flash);
+    for _ in 0..random.between(4, 8) {
+        let rule = 1 + random.index(RULES);
+        let other = if random.percent(45) { rule } else { 1 + random.index(RULES) };
+        let first = rule_damage(random, &flash, rule);
+        let second =
+            if random.percent(30) { first.clone() } else { rule_damage(random, &flash, other) };
+        let damages = [first, second];
+        for (address, damage) in flash.table_addresses().into_iter().zip(&damages) {
+            store(writer, address, damage);
+        }
+        write_questions(random, writer);
+        for (address, damage) in flash.table_addresses().into_iter().zip(&damages) {
+            let mended = damage.iter().map(|(at, bytes)| {
+                let old = &flash.table[*at..*at + bytes.len()];
+                (*at, old.to_vec())
+            });
+            store(writer, address, &mended.collect());
+        }
+    }
+    writer.line("order");
+}
+
+/// Mostly one question of a flash that is likely to be refused.
+fn write_questions(random: &mut Random, writer: &mut Writer) {
+    for _ in 0..random.weighted(&[(70, 1), (30, 2)]) {
+        if random.percent(50) {
+            writer.line("order");
+        } else if random.percent(10) {
+            writer.line("list");
+        } else if random.percent(30) {
+            let slot = random_slot(random, 4);
+            writer.line(format!("slot {slot}"));
+        } else {
+            let command = any_command(random);
+            writer.start(&command);
+        }
     }
 }
 
@@ -90,14 +142,67 @@ fn write_everything(random: &mut Random, writer: &mut Writer) {
         }
     }
     writer.line("order");
+    if random.percent(30) {
+        writer.line("list");
+    }
     writer.line("sum");
+}
+
+/// Dead, live and erased values put into places, some at either end, and the listing.
+fn write_listings(random: &mut Random, writer: &mut Writer) {
+    let flash = random_flash(random);
+    writer.build(&flash);
+    writer.line("list");
+    if random.percent(40) {
+        fill_places(random, writer, &flash);
+        writer.line("list");
+    }
+    let starts = slot_starts(&flash.partitions);
+    for _ in 0..random.between(4, 9) {
+        let (low, any) = (random.index(4), random.index(PLACES));
+        let place = random.pick(&[0, PLACES - 1, low, any]);
+        let value = match random.below(10) {
+            0 | 1 => random_value(random, &starts),
+            _ => dead_value(random, &flash.partitions),
+        };
+        let both = random.percent(85);
+        for block in flash.pointer_addresses().into_iter().take(if both { 2 } else { 1 }) {
+            let address = block + place_offset(place) as u64;
+            writer.line(format!("put {address} {}", hex(&value.to_le_bytes())));
+        }
+        writer.line("list");
+        if random.percent(20) {
+            let command = random_command(random, &writer.session);
+            if let Answer::Job(steps) = writer.start(&command) {
+                write_runs(random, writer, steps);
+                writer.line("list");
+            }
+        }
+    }
+    writer.line("order");
+}
+
+/// One dead value in every place of both copies.
+fn fill_places(random: &mut Random, writer: &mut Writer, flash: &Flash) {
+    let [cpb0, cpb1] = flash.pointer_addresses();
+    let first = cpb0 + PLACES_OFFSET as u64;
+    let value = dead_value(random, &flash.partitions);
+    writer.line(format!("put {first} {}", hex(&value.to_le_bytes())));
+    let mut filled = 1;
+    while filled < PLACES {
+        let more = filled.min(PLACES - filled);
+        let (to, bytes) = (first + (filled * PLACE_BYTES) as u64, more * PLACE_BYTES);
+        writer.line(format!("copy {first} {to} {bytes}"));
+        filled += more;
+    }
+    writer.line(format!("copy {cpb0} {cpb1} {BLOCK_BYTES}"));
 }
 
 fn write_runs(random: &mut Random, writer: &mut Writer, steps: usize) {
     if steps > 0 && random.percent(25) {
         let job = writer.session.job.as_ref().expect("the job just started");
-        let (steps, inside) = random_cut(random, job);
-        writer.cut(steps, inside);
+        let cut = random_cut(random, job);
+        writer.cut(&cut);
         return;
     }
     let budget = random_budget(random, steps);
@@ -165,6 +270,13 @@ fn write_wrong_length(random: &mut Random, writer: &mut Writer) {
                 writer.line(format!("run {budget}"));
             }
             writer.line(format!("length {other}"));
+            let job = writer.session.job.as_ref().expect("the job just started");
+            if job.remaining() > 0 && random.percent(25) {
+                let cut = random_cut(random, job);
+                writer.cut(&cut);
+                writer.line(format!("length {length}"));
+                continue;
+            }
             let budget = random_budget(random, steps);
             writer.line(format!("run {budget}"));
             writer.line(format!("length {length}"));
@@ -176,6 +288,7 @@ fn write_wrong_length(random: &mut Random, writer: &mut Writer) {
     let other = other_length(random, length);
     writer.line(format!("length {other}"));
     writer.line("order");
+    writer.line("list");
     writer.line("slot 0");
     for _ in 0..4 {
         let command = any_command(random);

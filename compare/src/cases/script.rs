@@ -1,5 +1,6 @@
 //! Scripts as they are written: each line is done at once, and what it must print is kept.
 
+use crate::cases::arguments::{Cut, Inside};
 use crate::cases::flash::Flash;
 use crate::cases::tally::Tally;
 use crate::document::commands::Command;
@@ -50,7 +51,9 @@ impl<'a> Writer<'a> {
         self.script.lines.push(line);
         if answer != Answer::Nothing {
             let line = self.script.lines.len();
-            self.script.printed.push(Printed { line, text: answer.to_string() });
+            let lines = answer.to_string();
+            let printed = lines.split('\n').map(|text| Printed { line, text: text.to_string() });
+            self.script.printed.extend(printed);
         }
         answer
     }
@@ -60,16 +63,29 @@ impl<'a> Writer<'a> {
     }
 
     /// Cuts the current job after some steps, perhaps inside an erase.
-    pub fn cut(&mut self, steps: usize, inside: Option<u64>) {
+    pub fn cut(&mut self, cut: &Cut) {
+        let steps = cut.steps;
         let job = self.session.job.as_ref().expect("a job to cut");
-        let next = job.step_after(steps);
-        if matches!(next, Some(Step::Erase { .. })) && inside.is_some_and(|bytes| bytes > 0) {
-            self.tally.cuts_inside_an_erase += 1;
+        let fits = job.fits(&self.session.image);
+        let before_erase = fits && matches!(job.step_after(steps), Some(Step::Erase { .. }));
+        let granule = job.granule() as u64;
+        let wiped = |&(from, length): &(u64, u64)| from < granule && length > 0;
+        let mut line = format!("cut {steps}");
+        match &cut.inside {
+            Inside::Nothing => {}
+            Inside::Lowest(bytes) => {
+                line += &format!(" {bytes}");
+                self.tally.cuts_inside_an_erase += u64::from(before_erase && *bytes > 0);
+            }
+            Inside::Ranges(ranges) => {
+                line = format!("torn {steps}");
+                for (from, length) in ranges {
+                    line += &format!(" {from} {length}");
+                }
+                self.tally.torn_erases += u64::from(before_erase && ranges.iter().any(wiped));
+            }
         }
-        match inside {
-            Some(bytes) => self.line(format!("cut {steps} {bytes}")),
-            None => self.line(format!("cut {steps}")),
-        };
+        self.line(line);
     }
 
     /// Adds a line that is in error, which ends the script.

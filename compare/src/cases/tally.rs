@@ -3,38 +3,87 @@
 use std::fmt;
 
 use crate::document::book::{Choice, Outcome};
-use crate::document::refusal::REFUSALS;
+use crate::document::listing::Listing;
+use crate::document::pointers::{judge, places, Judgement, PLACES};
+use crate::document::reading::View;
+use crate::document::refusal::{Refusal, NUMBERS};
 use crate::document::steps::{Step, REWRITE_STEPS};
+use crate::document::table::RULES;
 use crate::replay::{Answer, Session};
 
 /// The kinds of jobs, in the order in which they are counted.
 const JOB_KINDS: [&str; 12] = [
     "enable, 0 steps",
     "enable, 16 steps",
-    "enable, 8194 steps",
+    "enable, 8202 steps",
     "disable, 16 steps",
     "disable, 16 steps for each of several places",
-    "disable, 8194 steps",
+    "disable, 8202 steps",
     "rename, 0 steps",
-    "rename, 8194 steps",
+    "rename, 8202 steps",
     "repair, 0 steps",
-    "repair, 4097 steps, table",
-    "repair, 4097 steps, pointer block",
-    "repair, 8194 steps",
+    "repair, 4101 steps, table",
+    "repair, 4101 steps, pointer block",
+    "repair, 8202 steps",
 ];
 
 /// The commands that are accepted or refused.
-const COMMANDS: [&str; 7] = ["order", "slot", "enable", "disable", "rename", "repair", "run"];
+const COMMANDS: [&str; 8] =
+    ["order", "slot", "list", "enable", "disable", "rename", "repair", "run"];
+
+/// Every refusal, every kind of job and every broken rule is tried at least this often.
+const LEAST: u64 = 100;
+/// Enables of an empty slot, which are refused 14.
+const LEAST_EMPTY: u64 = 1000;
+/// Cuts inside an erase that leave any bytes erased.
+const LEAST_TORN: u64 = 2000;
+
+/// How often a rule was told as broken: in SPT0 beside another one in SPT1, the other way round,
+/// and in both.
+const WHERE_BROKEN: [&str; 3] = ["SPT0 alone", "SPT1 alone", "both"];
+
+/// The kinds of listings, in the order in which they are counted.
+const LISTING_KINDS: [&str; 13] = [
+    "spent at place 0",
+    "spent in the middle",
+    "spent at the last place",
+    "part-written at place 0",
+    "part-written in the middle",
+    "part-written at the last place",
+    "stray at place 0",
+    "stray in the middle",
+    "stray at the last place",
+    "every place dead",
+    "no place dead",
+    "an empty order and dead places",
+    "a slot that live places hold twice, and dead places",
+];
+
+/// A count, and how great it must be in a whole comparison.
+struct Demand {
+    what: String,
+    count: u64,
+    least: u64,
+}
 
 #[derive(Default)]
 pub struct Tally {
     pub scripts: u64,
     /// Accepted and refused, for each command.
     commands: [(u64, u64); COMMANDS.len()],
-    refusals: [u64; REFUSALS + 1],
+    /// In the order of the refusals' numbers.
+    refusals: [u64; NUMBERS.len()],
+    /// For each rule, from the first.
+    broken_rules: [[u64; WHERE_BROKEN.len()]; RULES],
+    /// Refusals 14 of the slot that is first already.
+    first_and_empty: u64,
+    listings: [u64; LISTING_KINDS.len()],
     jobs: [u64; JOB_KINDS.len()],
     pub cuts: u64,
+    /// Cuts that leave the lowest bytes of a granule erased.
     pub cuts_inside_an_erase: u64,
+    /// Cuts that leave any bytes of a granule erased.
+    pub torn_erases: u64,
     pub other_lines: u64,
     pub errors: u64,
     /// Items of the book that were refused, finished, cut and read as before, cut and read changed.
@@ -55,10 +104,41 @@ impl Tally {
         self.commands.iter().map(|count| count.1).sum()
     }
 
-    /// The least count among all refusals and all kinds of jobs.
-    pub fn least(&self) -> u64 {
-        let counts = self.refusals[1..].iter().chain(&self.jobs);
-        counts.copied().min().unwrap_or(0)
+    /// What came up less often than a whole comparison must try it.
+    pub fn too_few(&self) -> Vec<String> {
+        let few = self.demands().into_iter().filter(|demand| demand.count < demand.least);
+        few.map(|demand| format!("{}: {}, not {}", demand.what, demand.count, demand.least))
+            .collect()
+    }
+
+    /// What a whole comparison must try and did not come up.
+    pub fn untried(&self) -> Vec<String> {
+        let untried = self.demands().into_iter().filter(|demand| demand.count == 0);
+        untried.map(|demand| demand.what).collect()
+    }
+
+    fn demands(&self) -> Vec<Demand> {
+        let demand = |what: String, count: u64| Demand { what, count, least: LEAST };
+        let mut demands = Vec::new();
+        for (&number, count) in NUMBERS.iter().zip(self.refusals) {
+            let least = if number == Refusal::SlotEmpty.number() { LEAST_EMPTY } else { LEAST };
+            demands.push(Demand { what: format!("refusal {number}"), count, least });
+        }
+        demands.push(demand("first already and empty".to_string(), self.first_and_empty));
+        for (rule, counts) in (1..).zip(self.broken_rules) {
+            for (copy, count) in WHERE_BROKEN.iter().zip(counts) {
+                demands.push(demand(format!("rule {rule} in {copy}"), count));
+            }
+        }
+        for (name, count) in LISTING_KINDS.iter().zip(self.listings) {
+            demands.push(demand(format!("listings with {name}"), count));
+        }
+        for (name, count) in JOB_KINDS.iter().zip(self.jobs) {
+            demands.push(demand(name.to_string(), count));
+        }
+        let what = "torn erases".to_string();
+        demands.push(Demand { what, count: self.torn_erases, least: LEAST_TORN });
+        demands
     }
 
     /// Counts a line that a session has just done.
@@ -72,14 +152,63 @@ impl Tally {
             }
             return;
         };
+        if let Answer::ListingRefused(refusal) = answer {
+            self.commands[command].1 += 1;
+            self.count_number(*refusal);
+            return;
+        }
         if let Answer::Refused(refusal) = answer {
             self.commands[command].1 += 1;
-            self.refusals[refusal.number()] += 1;
+            self.count_refusal(*refusal);
+            if *refusal == Refusal::SlotEmpty && line_names_first_slot(line, session) {
+                self.first_and_empty += 1;
+            }
             return;
         }
         self.commands[command].0 += 1;
+        if let Answer::Listing(listing) = answer {
+            self.count_listing(listing, session);
+        }
         if let Answer::Job(steps) = answer {
             self.jobs[job_kind(word, *steps, session)] += 1;
+        }
+    }
+
+    fn count_number(&mut self, refusal: Refusal) {
+        let number = NUMBERS.iter().position(|&number| number == refusal.number());
+        self.refusals[number.expect("a number of the list")] += 1;
+    }
+
+    fn count_refusal(&mut self, refusal: Refusal) {
+        self.count_number(refusal);
+        if let Some(faults) = refusal.faults() {
+            let [first, second] = faults.map(|fault| fault.rule as usize - 1);
+            if first == second {
+                self.broken_rules[first][2] += 1;
+            } else {
+                self.broken_rules[first][0] += 1;
+                self.broken_rules[second][1] += 1;
+            }
+        }
+    }
+
+    fn count_listing(&mut self, listing: &Listing, session: &Session) {
+        let mut met = [false; LISTING_KINDS.len()];
+        for &(place, judgement) in &listing.dead {
+            let kind = match judgement {
+                Judgement::Spent => 0,
+                Judgement::PartWritten(_) => 3,
+                _ => 6,
+            };
+            met[kind + if place == 0 { 0 } else { 1 + usize::from(place == PLACES - 1) }] = true;
+        }
+        let dead = listing.dead.len();
+        met[9] = dead == PLACES;
+        met[10] = dead == 0;
+        met[11] = dead > 0 && listing.slots.is_empty();
+        met[12] = dead > 0 && live_places(session) > listing.slots.len();
+        for (count, met) in self.listings.iter_mut().zip(met) {
+            *count += u64::from(met);
         }
     }
 
@@ -94,10 +223,27 @@ impl Tally {
     }
 }
 
+/// How many places of the copy read are live.
+fn live_places(session: &Session) -> usize {
+    let Ok(view) = View::of(&session.image, &session.geometry) else {
+        return 0;
+    };
+    let judged = places(view.pointer_bytes()).map(|value| judge(value, &view.table.starts));
+    judged.filter(|judgement| matches!(judgement, Judgement::Live(_))).count()
+}
+
+/// Whether the slot of a line such as `enable 3` is the first of the boot order.
+fn line_names_first_slot(line: &str, session: &Session) -> bool {
+    let slot = line.split(' ').nth(1).and_then(|word| word.parse::<u32>().ok());
+    let view = View::of(&session.image, &session.geometry);
+    slot.is_some() && view.is_ok_and(|view| view.order().first().copied() == slot)
+}
+
 fn job_kind(word: &str, steps: usize, session: &Session) -> usize {
     let in_table = match session.job.as_ref().and_then(|job| job.next_step()) {
         Some(Step::Erase { address } | Step::Program { address, .. }) => {
-            session.geometry.table_addresses.contains(&(address as u64))
+            let tables = session.geometry.table_addresses;
+            tables.iter().any(|&table| (table..table + 4).contains(&(address as u64)))
         }
         None => false,
     };
@@ -127,15 +273,26 @@ impl fmt::Display for Tally {
             writeln!(out, "  {name}: {accepted} accepted, {refused} refused")?;
         }
         writeln!(out, "refusals")?;
-        for (number, count) in self.refusals.iter().enumerate().skip(1) {
+        for (number, count) in NUMBERS.iter().zip(self.refusals) {
             writeln!(out, "  {number}: {count}")?;
+        }
+        writeln!(out, "  {} of 14 where the slot is first already", self.first_and_empty)?;
+        writeln!(out, "first broken rule of a table: {}", WHERE_BROKEN.join(", "))?;
+        for (rule, [first, second, both]) in (1..).zip(self.broken_rules) {
+            writeln!(out, "  {rule}: {first}, {second}, {both}")?;
+        }
+        writeln!(out, "listings with")?;
+        for (name, count) in LISTING_KINDS.iter().zip(self.listings) {
+            writeln!(out, "  {name}: {count}")?;
         }
         writeln!(out, "jobs")?;
         for (name, count) in JOB_KINDS.iter().zip(self.jobs) {
             writeln!(out, "  {name}: {count}")?;
         }
-        let (cuts, inside) = (self.cuts, self.cuts_inside_an_erase);
-        writeln!(out, "{cuts} cuts, {inside} of them inside an erase")?;
+        let (lowest, torn) = (self.cuts_inside_an_erase, self.torn_erases);
+        writeln!(out, "{} cuts", self.cuts)?;
+        writeln!(out, "  {lowest} inside an erase that has wiped the lowest bytes")?;
+        writeln!(out, "  {torn} inside an erase that has wiped any bytes")?;
         writeln!(out, "{} other lines, {} scripts with an error", self.other_lines, self.errors)?;
         let [refused, finished, old, new] = self.book;
         let items = self.book.iter().sum::<u64>() + self.book_broken;

@@ -1,11 +1,11 @@
 //! The four commands: what each refuses, and the job that it starts.
 
-use crate::document::image::{Geometry, BLOCK_BYTES, ERASED};
+use crate::document::image::{block_at, Geometry, BLOCK_BYTES, ERASED};
 use crate::document::pointers::{self, PLACES_OFFSET, PLACE_BYTES};
 use crate::document::reading::View;
 use crate::document::refusal::Refusal;
 use crate::document::shortcut::Shortcut;
-use crate::document::steps::{Job, Stage};
+use crate::document::steps::{Job, Manner, Stage};
 use crate::document::table::{name_field, ENTRIES_OFFSET, ENTRY_BYTES, FIXED_NAMES, NAME_BYTES};
 
 #[derive(Clone, Debug, PartialEq, Eq)]
@@ -23,7 +23,7 @@ pub fn start(
     command: &Command,
     shortcut: Option<Shortcut>,
 ) -> Result<Job, Refusal> {
-    let view = View::of(image, geometry)?;
+    let view = View::planted(image, geometry, shortcut)?;
     let starter = Starter { view, shortcut };
     let stages = match command {
         Command::Enable(slot) => starter.enable(*slot)?,
@@ -44,7 +44,12 @@ impl Starter<'_> {
         self.pairs_agree()?;
         let start = self.slot_start(slot)?;
         let order = self.view.order();
-        if order.first() == Some(&slot) {
+        let first_already = order.first() == Some(&slot);
+        let excused = first_already && self.plants(Shortcut::FirstMayBeEmpty);
+        if self.slot_empty(start) && !excused {
+            return Err(Refusal::SlotEmpty);
+        }
+        if first_already {
             return Ok(Vec::new());
         }
         Ok(match self.place_to_use() {
@@ -121,6 +126,15 @@ impl Starter<'_> {
         start.copied().ok_or(Refusal::NoSuchSlot)
     }
 
+    /// Whether the first 4,096 bytes of the slot that starts here are all 0xFF.
+    fn slot_empty(&self, start: u64) -> bool {
+        let first_bytes = block_at(self.view.image, start as usize);
+        if self.plants(Shortcut::FirstByteAlone) {
+            return first_bytes[0] == ERASED;
+        }
+        first_bytes == [ERASED; BLOCK_BYTES]
+    }
+
     fn plants(&self, shortcut: Shortcut) -> bool {
         self.shortcut == Some(shortcut)
     }
@@ -175,10 +189,21 @@ impl Starter<'_> {
     }
 
     fn rewrite(&self, address: usize, block: &[u8; BLOCK_BYTES]) -> Stage {
-        if self.plants(Shortcut::MagicFirst) {
-            return Stage::rewrite_magic_first(address, block);
+        let mut manner = Manner::RIGHT;
+        match self.shortcut {
+            Some(Shortcut::MagicFirst) => manner.first = 0,
+            Some(Shortcut::NoZeros) => manner.zeros = &[],
+            Some(Shortcut::NoZerosOverNoMagic) if self.magic_differs(address, block) => {
+                manner.zeros = &[];
+            }
+            Some(Shortcut::ZerosDownward) => manner.zeros = &[3, 2, 1, 0],
+            _ => {}
         }
-        Stage::rewrite(address, block)
+        Stage::rewrite(address, block, manner)
+    }
+
+    fn magic_differs(&self, address: usize, block: &[u8; BLOCK_BYTES]) -> bool {
+        self.view.image[address..address + 4] != block[..4]
     }
 }
 

@@ -1,4 +1,5 @@
-//! The configuration pointer block: when a copy stands, its places, the boot order, two dumps.
+//! The configuration pointer block: when a copy stands, its places and what each is judged to be,
+//! the boot order, two dumps.
 
 use crate::document::image::{u32_at, u64_at, BLOCK_BYTES};
 
@@ -41,15 +42,49 @@ pub fn places(block: &[u8]) -> impl DoubleEndedIterator<Item = u64> + ExactSizeI
     block[PLACES_OFFSET..].chunks_exact(PLACE_BYTES).map(|bytes| u64_at(bytes, 0))
 }
 
+/// What a place is judged to be. Document 01's dead places are the spent, part-written and stray.
+#[derive(Clone, Copy, Debug, PartialEq, Eq)]
+pub enum Judgement {
+    Erased,
+    /// It holds 0.
+    Spent,
+    /// It holds the start of this slot.
+    Live(u32),
+    /// Its top byte is 0xFF, and it is not erased.
+    PartWritten(u64),
+    Stray(u64),
+}
+
+impl Judgement {
+    pub fn is_dead(self) -> bool {
+        !matches!(self, Judgement::Erased | Judgement::Live(_))
+    }
+}
+
+/// The judgement of a place with this value, for slots with these starts.
+pub fn judge(value: u64, starts: &[u64]) -> Judgement {
+    if value == ERASED_PLACE {
+        return Judgement::Erased;
+    }
+    if value == 0 {
+        return Judgement::Spent;
+    }
+    match starts.iter().position(|&start| start == value) {
+        Some(slot) => Judgement::Live(slot as u32),
+        None if value >> 56 == 0xFF => Judgement::PartWritten(value),
+        None => Judgement::Stray(value),
+    }
+}
+
 /// The slots in boot order, for slots with these starts.
 pub fn boot_order(block: &[u8], starts: &[u64]) -> Vec<u32> {
     let mut order = Vec::with_capacity(starts.len());
     let mut met = vec![false; starts.len()];
-    for value in places(block).rev().filter(|&value| value != ERASED_PLACE) {
-        if let Some(slot) = starts.iter().position(|&start| start == value) {
-            if !met[slot] {
-                met[slot] = true;
-                order.push(slot as u32);
+    for value in places(block).rev() {
+        if let Judgement::Live(slot) = judge(value, starts) {
+            if !met[slot as usize] {
+                met[slot as usize] = true;
+                order.push(slot);
             }
         }
     }

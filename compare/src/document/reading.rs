@@ -3,7 +3,8 @@
 use crate::document::image::{block_at, Geometry};
 use crate::document::pointers;
 use crate::document::refusal::Refusal;
-use crate::document::table::{Entry, Table};
+use crate::document::shortcut::Shortcut;
+use crate::document::table::{self, Entry, Rule, Table};
 
 /// A flash that can be read: the copies read and where all four blocks are.
 pub struct View<'a> {
@@ -24,8 +25,17 @@ pub struct Reading {
 }
 
 impl<'a> View<'a> {
-    /// Refusals 1 to 5.
+    /// Refusals 1 to 3, 50, 51 and 5.
     pub fn of(image: &'a [u8], geometry: &Geometry) -> Result<View<'a>, Refusal> {
+        View::planted(image, geometry, None)
+    }
+
+    /// The same, with a shortcut planted.
+    pub fn planted(
+        image: &'a [u8],
+        geometry: &Geometry,
+        shortcut: Option<Shortcut>,
+    ) -> Result<View<'a>, Refusal> {
         let image_length = image.len() as u64;
         geometry.check(image_length)?;
         let table_addresses = geometry.table_addresses.map(|address| address as usize);
@@ -33,8 +43,9 @@ impl<'a> View<'a> {
             let block = block_at(image, table_addresses[copy]);
             Some((copy, Table::standing(block, image_length, geometry)?))
         };
-        let (table_copy, table) =
-            standing(0).or_else(|| standing(1)).ok_or(Refusal::NoTableStands)?;
+        let (table_copy, table) = standing(0)
+            .or_else(|| standing(1))
+            .ok_or_else(|| no_table(image, geometry, shortcut))?;
         let pointer_copy = (0..2)
             .find(|&copy| pointers::stands(block_at(image, table.pointer_addresses[copy])))
             .ok_or(Refusal::NoPointerBlockStands)?;
@@ -51,6 +62,20 @@ impl<'a> View<'a> {
 
     pub fn order(&self) -> Vec<u32> {
         pointers::boot_order(self.pointer_bytes(), &self.table.starts)
+    }
+
+    /// Writes the boot order into the front of the row and returns its length.
+    pub fn order_into(&self, row: &mut [u32]) -> Result<usize, Refusal> {
+        let order = self.order();
+        let front = row.get_mut(..order.len()).ok_or(Refusal::RowTooShort)?;
+        front.copy_from_slice(&order);
+        Ok(order.len())
+    }
+
+    /// Entry number and entry of a slot.
+    pub fn slot_facts(&self, slot: u32) -> Result<(usize, Entry), Refusal> {
+        let number = *self.table.slots.get(slot as usize).ok_or(Refusal::NoSuchSlot)?;
+        Ok((number, self.table.entries[number]))
     }
 
     pub fn reading(&self) -> Reading {
@@ -74,17 +99,29 @@ impl<'a> View<'a> {
     }
 }
 
-/// The order list: writes the slot numbers into the front of the row and returns their count.
-pub fn order_list(image: &[u8], geometry: &Geometry, row: &mut [u32]) -> Result<usize, Refusal> {
-    let order = View::of(image, geometry)?.order();
-    let front = row.get_mut(..order.len()).ok_or(Refusal::RowTooShort)?;
-    front.copy_from_slice(&order);
-    Ok(order.len())
+/// The refusal where neither table copy stands.
+fn no_table(image: &[u8], geometry: &Geometry, shortcut: Option<Shortcut>) -> Refusal {
+    let blocks = geometry.table_addresses.map(|address| block_at(image, address as usize));
+    let image_length = image.len() as u64;
+    let mut faults = blocks.map(|block| {
+        table::fault(block, image_length, geometry, shortcut).expect("a rule that is broken")
+    });
+    let mut magics_wrong = blocks.iter().all(|block| !table::has_magic(block));
+    match shortcut {
+        Some(Shortcut::FaultOfTheOtherCopy) => faults.reverse(),
+        Some(Shortcut::VersionTakenForMagic) => {
+            magics_wrong = faults.iter().all(|fault| fault.rule == Rule::MagicAndVersion);
+        }
+        _ => {}
+    }
+    if magics_wrong {
+        Refusal::NoTableMagic(faults)
+    } else {
+        Refusal::NoTableStands(faults)
+    }
 }
 
-/// Entry number and entry of a slot.
-pub fn slot_facts(image: &[u8], geometry: &Geometry, slot: u32) -> Result<(usize, Entry), Refusal> {
-    let table = View::of(image, geometry)?.table;
-    let number = *table.slots.get(slot as usize).ok_or(Refusal::NoSuchSlot)?;
-    Ok((number, table.entries[number]))
+/// The order list: writes the slot numbers into the front of the row and returns their count.
+pub fn order_list(image: &[u8], geometry: &Geometry, row: &mut [u32]) -> Result<usize, Refusal> {
+    View::of(image, geometry)?.order_into(row)
 }

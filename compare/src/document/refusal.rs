@@ -1,27 +1,57 @@
-//! The refusal numbers of document 01, in the order in which they are checked.
+//! The refusal numbers of the documents, in the order in which they are checked.
+
+use crate::document::table::Fault;
 
 #[derive(Clone, Copy, Debug, PartialEq, Eq)]
 pub enum Refusal {
-    ImageLength = 1,
-    Granule = 2,
-    TableAddresses = 3,
-    NoTableStands = 4,
-    NoPointerBlockStands = 5,
-    PairDisagrees = 6,
-    NoSuchSlot = 7,
-    NotInBootOrder = 8,
-    NameNotAllowed = 9,
-    NameTaken = 10,
-    JobFinished = 11,
-    ImageChanged = 12,
-    RowTooShort = 13,
+    ImageLength,
+    Granule,
+    TableAddresses,
+    /// No table copy stands, and neither has its magic. With what is wrong in SPT0 and in SPT1.
+    NoTableMagic([Fault; 2]),
+    /// No table copy stands, though one has its magic.
+    NoTableStands([Fault; 2]),
+    NoPointerBlockStands,
+    PairDisagrees,
+    NoSuchSlot,
+    SlotEmpty,
+    NotInBootOrder,
+    NameNotAllowed,
+    NameTaken,
+    JobFinished,
+    ImageChanged,
+    RowTooShort,
 }
 
-/// The highest refusal number.
-pub const REFUSALS: usize = 13;
+/// Every refusal number.
+pub const NUMBERS: [usize; 15] = [1, 2, 3, 50, 51, 5, 6, 7, 14, 8, 9, 10, 11, 12, 13];
 
 impl Refusal {
     pub fn number(self) -> usize {
-        self as usize
+        match self {
+            Refusal::ImageLength => 1,
+            Refusal::Granule => 2,
+            Refusal::TableAddresses => 3,
+            Refusal::NoTableMagic(_) => 50,
+            Refusal::NoTableStands(_) => 51,
+            Refusal::NoPointerBlockStands => 5,
+            Refusal::PairDisagrees => 6,
+            Refusal::NoSuchSlot => 7,
+            Refusal::SlotEmpty => 14,
+            Refusal::NotInBootOrder => 8,
+            Refusal::NameNotAllowed => 9,
+            Refusal::NameTaken => 10,
+            Refusal::JobFinished => 11,
+            Refusal::ImageChanged => 12,
+            Refusal::RowTooShort => 13,
+        }
+    }
+
+    /// What is wrong in SPT0 and in SPT1, if that is why.
+    pub fn faults(self) -> Option<[Fault; 2]> {
+        match self {
+            Refusal::NoTableMagic(faults) | Refusal::NoTableStands(faults) => Some(faults),
+            _ => None,
+        }
     }
 }

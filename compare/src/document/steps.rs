@@ -3,10 +3,24 @@
 use crate::document::image::{BLOCK_BYTES, ERASED};
 use crate::document::refusal::Refusal;
 
-/// Steps of a rewriting: one erase and every byte programmed.
-pub const REWRITE_STEPS: usize = 1 + BLOCK_BYTES;
-/// A rewriting programs the bytes from here up, and then those before.
-const AFTER_MAGIC: usize = 4;
+/// Steps of a rewriting: four zeros, one erase and every byte programmed.
+pub const REWRITE_STEPS: usize = Manner::RIGHT.zeros.len() + REWRITE_STEPS_FROM_ERASE;
+/// Those from the erase on.
+pub const REWRITE_STEPS_FROM_ERASE: usize = 1 + BLOCK_BYTES;
+
+/// How a block is rewritten.
+#[derive(Clone, Copy)]
+pub struct Manner {
+    /// The bytes that are programmed to zero before the erase.
+    pub zeros: &'static [usize],
+    /// After the erase the bytes from this one up are programmed, and then those before it.
+    pub first: usize,
+}
+
+impl Manner {
+    /// The magic is the first to go and the last to come.
+    pub const RIGHT: Manner = Manner { zeros: &[0, 1, 2, 3], first: 4 };
+}
 
 #[derive(Clone, Copy, Debug, PartialEq, Eq)]
 pub enum Step {
@@ -21,25 +35,20 @@ pub enum Step {
 pub enum Stage {
     /// These bytes, one after the other.
     Program(Vec<(usize, u8)>),
-    /// An erase, then the block's bytes from `first` up, then those before it.
-    Rewrite { address: usize, block: Box<[u8; BLOCK_BYTES]>, first: usize },
+    /// Zeros, an erase, then the block's bytes.
+    Rewrite { address: usize, block: Box<[u8; BLOCK_BYTES]>, manner: Manner },
 }
 
 impl Stage {
     /// The rewriting of the block at this address.
-    pub fn rewrite(address: usize, block: &[u8; BLOCK_BYTES]) -> Stage {
-        Stage::Rewrite { address, block: Box::new(*block), first: AFTER_MAGIC }
-    }
-
-    /// A rewriting with the magic before the rest, which is a shortcut.
-    pub fn rewrite_magic_first(address: usize, block: &[u8; BLOCK_BYTES]) -> Stage {
-        Stage::Rewrite { address, block: Box::new(*block), first: 0 }
+    pub fn rewrite(address: usize, block: &[u8; BLOCK_BYTES], manner: Manner) -> Stage {
+        Stage::Rewrite { address, block: Box::new(*block), manner }
     }
 
     fn steps(&self) -> usize {
         match self {
             Stage::Program(bytes) => bytes.len(),
-            Stage::Rewrite { .. } => REWRITE_STEPS,
+            Stage::Rewrite { manner, .. } => manner.zeros.len() + REWRITE_STEPS_FROM_ERASE,
         }
     }
 
@@ -49,9 +58,14 @@ impl Stage {
                 let (address, given) = bytes[number];
                 Step::Program { address, given }
             }
-            Stage::Rewrite { address, .. } if number == 0 => Step::Erase { address: *address },
-            Stage::Rewrite { address, block, first } => {
-                let offset = (first + number - 1) % BLOCK_BYTES;
+            Stage::Rewrite { address, block, manner: Manner { zeros, first } } => {
+                if let Some(offset) = zeros.get(number) {
+                    return Step::Program { address: address + offset, given: 0 };
+                }
+                if number == zeros.len() {
+                    return Step::Erase { address: *address };
+                }
+                let offset = (first + number - zeros.len() - 1) % BLOCK_BYTES;
                 Step::Program { address: address + offset, given: block[offset] }
             }
         }
@@ -65,12 +79,17 @@ impl Stage {
                     image[address] &= given;
                 }
             }
-            Stage::Rewrite { address, block, first } => {
-                if from == 0 && to > 0 {
+            Stage::Rewrite { address, block, manner: Manner { zeros, first } } => {
+                let erasing = zeros.len();
+                for offset in &zeros[from.min(erasing)..to.min(erasing)] {
+                    image[address + offset] = 0;
+                }
+                if (from..to).contains(&erasing) {
                     erase(image, *address, granule);
                 }
-                // Step `n` programs the byte `first + n - 1`, counted round the block's end.
-                let (from, to) = (first + from.saturating_sub(1), first + to.saturating_sub(1));
+                // From the erase on, step `n` programs the byte `first + n - 1`, counted round the
+                // block's end.
+                let [from, to] = [from, to].map(|step| first + step.saturating_sub(erasing + 1));
                 let target = &mut image[*address..*address + BLOCK_BYTES];
                 let upward = from.min(BLOCK_BYTES)..to.min(BLOCK_BYTES);
                 program(&mut target[upward.clone()], &block[upward]);
@@ -172,12 +191,21 @@ impl Job {
     }
 
     /// Does `steps` steps, fewer than remain; then, if the next one is an erase, the cut falls
-    /// inside it and leaves the granule's lowest `inside` bytes erased.
-    pub fn cut(mut self, image: &mut [u8], steps: usize, inside: u64) {
+    /// inside it and leaves these ranges of the granule erased: where each begins, and its length.
+    /// What passes the granule's end is ignored.
+    pub fn torn(mut self, image: &mut [u8], steps: usize, ranges: &[(u64, u64)]) {
         self.advance(image, steps);
         if let Some(Step::Erase { address }) = self.next_step() {
-            let length = usize::try_from(inside).unwrap_or(usize::MAX).min(self.granule);
-            erase(image, address, length);
+            let granule = self.granule as u64;
+            for &(from, length) in ranges {
+                let [from, to] = [from, from.saturating_add(length)].map(|at| at.min(granule));
+                erase(image, address + from as usize, (to - from) as usize);
+            }
         }
+    }
+
+    /// The same, with the granule's lowest `inside` bytes erased.
+    pub fn cut(self, image: &mut [u8], steps: usize, inside: u64) {
+        self.torn(image, steps, &[(0, inside)]);
     }
 }

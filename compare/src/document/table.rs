@@ -1,6 +1,7 @@
 //! The sub-partition table: its entries, when a copy stands, and the application slots.
 
 use crate::document::image::{ends_by, u32_at, u64_at, Geometry, BLOCK_BYTES};
+use crate::document::shortcut::Shortcut;
 
 pub const MAGIC: u32 = 0x5771_3427;
 pub const VERSION: u32 = 0;
@@ -18,6 +19,39 @@ const BOOT_INFO: usize = 0;
 const SPT: [usize; 2] = [2, 3];
 const CPB: [usize; 2] = [4, 5];
 
+/// What a table copy must be to stand: document 01's sentence, cut at its semicolons.
+#[derive(Clone, Copy, Debug, PartialEq, Eq)]
+pub enum Rule {
+    MagicAndVersion = 1,
+    EntryCount = 2,
+    NameWithEnd = 3,
+    NamesDiffer = 4,
+    WholeBlocks = 5,
+    InsideImage = 6,
+    NoOverlap = 7,
+    SixNames = 8,
+    BootInfoAtZero = 9,
+    TablesWhereSaid = 10,
+    OnGranules = 11,
+}
+
+/// The number of rules.
+pub const RULES: usize = 11;
+
+/// Why a table copy does not stand: the first rule that it breaks, and the entry that does.
+#[derive(Clone, Copy, Debug, PartialEq, Eq)]
+pub struct Fault {
+    pub rule: Rule,
+    pub entry: usize,
+}
+
+impl Fault {
+    /// A fault of the table as a whole.
+    fn of_table(rule: Rule) -> Fault {
+        Fault { rule, entry: ENTRIES_MAX }
+    }
+}
+
 /// A name as its field holds it, zeros after the name's end: equal exactly when the names are.
 pub type Name = [u8; NAME_BYTES];
 
@@ -28,7 +62,7 @@ pub fn name_field(name: &[u8]) -> Name {
     field
 }
 
-#[derive(Clone, Copy, Debug)]
+#[derive(Clone, Copy, Debug, PartialEq, Eq)]
 pub struct Entry {
     pub name: Name,
     pub start: u64,
@@ -57,20 +91,28 @@ impl Entry {
         &self.name[..end.unwrap_or(NAME_BYTES)]
     }
 
-    fn range_right(&self, image_length: u64) -> bool {
+    fn whole_blocks(&self) -> bool {
         let block = BLOCK_BYTES as u64;
         self.start.is_multiple_of(block)
             && u64::from(self.length).is_multiple_of(block)
             && self.length != 0
-            && ends_by(self.start, u64::from(self.length), image_length)
+    }
+
+    fn inside(&self, image_length: u64) -> bool {
+        ends_by(self.start, u64::from(self.length), image_length)
     }
 
     fn end(&self) -> u64 {
         self.start + u64::from(self.length)
     }
 
+    /// For two entries that lie inside the image.
+    fn overlaps(&self, other: &Entry) -> bool {
+        self.end() > other.start && other.end() > self.start
+    }
+
     fn apart(&self, other: &Entry) -> bool {
-        self.name != other.name && (self.end() <= other.start || other.end() <= self.start)
+        self.name != other.name && !self.overlaps(other)
     }
 
     fn on_granules(&self, granule: u64) -> bool {
@@ -93,7 +135,7 @@ pub struct Table {
 impl Table {
     /// The table in this block, if it stands in an image of this length.
     pub fn standing(block: &[u8], image_length: u64, geometry: &Geometry) -> Option<Table> {
-        if u32_at(block, 0) != MAGIC || u32_at(block, 4) != VERSION {
+        if !has_magic(block) || u32_at(block, 4) != VERSION {
             return None;
         }
         let count = u32_at(block, 8) as usize;
@@ -102,7 +144,7 @@ impl Table {
         }
         let rows = block[ENTRIES_OFFSET..].chunks_exact(ENTRY_BYTES).take(count);
         let entries = rows.map(Entry::read).collect::<Option<Vec<Entry>>>()?;
-        let inside = entries.iter().all(|entry| entry.range_right(image_length));
+        let inside = entries.iter().all(|entry| entry.whole_blocks() && entry.inside(image_length));
         if !inside || !all_apart(&entries) {
             return None;
         }
@@ -127,6 +169,11 @@ impl Table {
     }
 }
 
+/// Whether a block begins with a table's magic.
+pub fn has_magic(block: &[u8]) -> bool {
+    u32_at(block, 0) == MAGIC
+}
+
 /// No two entries share a name or overlap.
 fn all_apart(entries: &[Entry]) -> bool {
     entries
@@ -145,10 +192,83 @@ fn fixed_entries(entries: &[Entry]) -> Option<[usize; 6]> {
     Some(numbers)
 }
 
+/// The first rule that the table in this block breaks, one after the other; none if it stands.
+pub fn fault(
+    block: &[u8],
+    image_length: u64,
+    geometry: &Geometry,
+    shortcut: Option<Shortcut>,
+) -> Option<Fault> {
+    if !has_magic(block) || u32_at(block, 4) != VERSION {
+        return Some(Fault::of_table(Rule::MagicAndVersion));
+    }
+    let count = u32_at(block, 8) as usize;
+    if count == 0 || count > ENTRIES_MAX {
+        return Some(Fault::of_table(Rule::EntryCount));
+    }
+    let mut entries = Vec::with_capacity(count);
+    for (entry, row) in block[ENTRIES_OFFSET..].chunks_exact(ENTRY_BYTES).take(count).enumerate() {
+        match Entry::read(row) {
+            Some(read) => entries.push(read),
+            None => return Some(Fault { rule: Rule::NameWithEnd, entry }),
+        }
+    }
+    entry_fault(&entries, image_length, shortcut).or_else(|| match fixed_entries(&entries) {
+        Some(fixed) => fixed_fault(&entries, &fixed, geometry),
+        None => Some(Fault::of_table(Rule::SixNames)),
+    })
+}
+
+/// The first of rules 4 to 7 that an entry breaks, and the lowest entry that does. One of two that
+/// clash is the later one.
+fn entry_fault(entries: &[Entry], image_length: u64, shortcut: Option<Shortcut>) -> Option<Fault> {
+    let lowest = |rule: Rule, broken: &dyn Fn(usize, &Entry) -> bool| {
+        let entry = (0..entries.len()).find(|&number| broken(number, &entries[number]))?;
+        Some(Fault { rule, entry })
+    };
+    let clashing_with = |number: usize| {
+        let (earlier, from_here) = entries.split_at(number);
+        if shortcut == Some(Shortcut::EarlierOfTwoThatClash) {
+            &from_here[1..]
+        } else {
+            earlier
+        }
+    };
+    lowest(Rule::NamesDiffer, &|number, entry| {
+        clashing_with(number).iter().any(|other| other.name == entry.name)
+    })
+    .or_else(|| lowest(Rule::WholeBlocks, &|_, entry| !entry.whole_blocks()))
+    .or_else(|| lowest(Rule::InsideImage, &|_, entry| !entry.inside(image_length)))
+    .or_else(|| {
+        lowest(Rule::NoOverlap, &|number, entry| {
+            clashing_with(number).iter().any(|other| other.overlaps(entry))
+        })
+    })
+}
+
 /// BOOT_INFO is at 0, SPT0 and SPT1 where the caller said, and the four blocks fit the granule.
 fn fixed_right(entries: &[Entry], fixed: &[usize; 6], geometry: &Geometry) -> bool {
     let entry = |place: usize| &entries[fixed[place]];
     entry(BOOT_INFO).start == 0
         && SPT.map(|place| entry(place).start) == geometry.table_addresses
         && SPT.iter().chain(&CPB).all(|&place| entry(place).on_granules(geometry.granule))
+}
+
+/// The first of rules 9 to 11 that is broken, and the lowest entry that breaks it.
+fn fixed_fault(entries: &[Entry], fixed: &[usize; 6], geometry: &Geometry) -> Option<Fault> {
+    let lowest = |rule: Rule, places: &[usize], broken: &dyn Fn(usize, &Entry) -> bool| {
+        let broken = places.iter().filter(|&&place| broken(place, &entries[fixed[place]]));
+        let entry = broken.map(|&place| fixed[place]).min()?;
+        Some(Fault { rule, entry })
+    };
+    let blocks = [SPT[0], SPT[1], CPB[0], CPB[1]];
+    lowest(Rule::BootInfoAtZero, &[BOOT_INFO], &|_, entry| entry.start != 0)
+        .or_else(|| {
+            lowest(Rule::TablesWhereSaid, &SPT, &|place, entry| {
+                entry.start != geometry.table_addresses[place - SPT[0]]
+            })
+        })
+        .or_else(|| {
+            lowest(Rule::OnGranules, &blocks, &|_, entry| !entry.on_granules(geometry.granule))
+        })
 }

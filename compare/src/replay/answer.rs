@@ -1,14 +1,25 @@
-//! What a line prints.
+//! What a line prints: one line, or the lines of a listing.
 
 use std::fmt;
 
+use crate::document::listing::Listing;
 use crate::document::refusal::Refusal;
 
 #[derive(Clone, Debug, PartialEq, Eq)]
 pub enum Answer {
     Nothing,
     Order(Vec<u32>),
-    Slot { slot: u32, entry: usize, name: Vec<u8>, start: u64, length: u32, flags: u32 },
+    Slot {
+        slot: u32,
+        entry: usize,
+        name: Vec<u8>,
+        start: u64,
+        length: u32,
+        flags: u32,
+    },
+    Listing(Listing),
+    /// The refusal of a listing, of which the number alone is printed.
+    ListingRefused(Refusal),
     Job(usize),
     Ran(usize),
     Refused(Refusal),
@@ -29,9 +40,17 @@ impl fmt::Display for Answer {
             Answer::Slot { slot, entry, name, start, length, flags } => {
                 write!(out, "slot {slot} {entry} {} {start} {length} {flags}", hex(name))
             }
+            Answer::Listing(listing) => write!(out, "{listing}"),
+            Answer::ListingRefused(refusal) => write!(out, "refused {}", refusal.number()),
             Answer::Job(steps) => write!(out, "job {steps}"),
             Answer::Ran(steps) => write!(out, "ran {steps}"),
-            Answer::Refused(refusal) => write!(out, "refused {}", refusal.number()),
+            Answer::Refused(refusal) => {
+                write!(out, "refused {}", refusal.number())?;
+                let faults = refusal.faults().into_iter().flatten();
+                faults
+                    .into_iter()
+                    .try_for_each(|fault| write!(out, " {} {}", fault.rule as usize, fault.entry))
+            }
             Answer::Cut => write!(out, "cut"),
             Answer::Bytes(bytes) if bytes.is_empty() => write!(out, "bytes"),
             Answer::Bytes(bytes) => write!(out, "bytes {}", hex(bytes)),

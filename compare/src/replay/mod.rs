@@ -4,8 +4,10 @@ use std::io::{self, BufRead, Read, Write};
 
 use crate::document::commands::{self, Command};
 use crate::document::image::{Geometry, ERASED};
+use crate::document::listing::Listing;
 use crate::document::pointers;
-use crate::document::reading;
+use crate::document::reading::View;
+use crate::document::refusal::Refusal;
 use crate::document::shortcut::Shortcut;
 use crate::document::steps::Job;
 
@@ -14,7 +16,7 @@ mod words;
 
 pub use answer::{fnv1a, hex, Answer};
 pub use words::NotALine;
-use words::{byte_of, bytes_of, command_of, length_of, number_of, slot_of};
+use words::{byte_of, bytes_of, command_of, length_of, number_of, ranges_of, slot_of};
 
 pub const LINE_BYTES_MAX: usize = 16_384;
 pub const IMAGE_BYTES_MAX: u64 = 1_048_576;
@@ -46,7 +48,7 @@ impl Session {
         match words[0] {
             b"image" | b"length" | b"box" | b"put" | b"copy" => self.change(&words),
             b"enable" | b"disable" | b"rename" | b"repair" => Ok(self.start(&command_of(&words)?)),
-            b"run" | b"cut" => self.carry_out(&words),
+            b"run" | b"cut" | b"torn" => self.carry_out(&words),
             _ => self.ask(&words),
         }
     }
@@ -73,8 +75,9 @@ impl Session {
     fn carry_out(&mut self, words: &[&[u8]]) -> Answered {
         match *words {
             [b"run", budget] => self.run(number_of(budget)?),
-            [b"cut", steps] => self.cut(number_of(steps)?, 0),
-            [b"cut", steps, inside] => self.cut(number_of(steps)?, number_of(inside)?),
+            [b"cut", steps] => self.cut(number_of(steps)?, &[]),
+            [b"cut", steps, inside] => self.cut(number_of(steps)?, &[(0, number_of(inside)?)]),
+            [b"torn", steps, ref ranges @ ..] => self.cut(number_of(steps)?, &ranges_of(ranges)?),
             _ => Err(NotALine),
         }
     }
@@ -85,6 +88,7 @@ impl Session {
             [b"order"] => self.order(ROW_DEFAULT),
             [b"order", row] => self.order(number_of(row)?),
             [b"slot", slot] => Ok(self.slot(slot_of(slot)?)),
+            [b"list"] => Ok(self.list()),
             [b"peek", address, length] => {
                 let bytes = self.part(number_of(address)?, number_of(length)?)?;
                 Ok(Answer::Bytes(bytes.to_vec()))
@@ -126,12 +130,16 @@ impl Session {
         Ok(Answer::Nothing)
     }
 
+    fn view(&self) -> Result<View<'_>, Refusal> {
+        View::planted(&self.image, &self.geometry, self.shortcut)
+    }
+
     fn order(&self, row_length: u64) -> Answered {
         if row_length > ROW_MAX {
             return Err(NotALine);
         }
         let mut row = vec![0; row_length as usize];
-        Ok(match reading::order_list(&self.image, &self.geometry, &mut row) {
+        Ok(match self.view().and_then(|view| view.order_into(&mut row)) {
             Ok(count) => {
                 row.truncate(count);
                 Answer::Order(row)
@@ -141,7 +149,7 @@ impl Session {
     }
 
     fn slot(&self, slot: u32) -> Answer {
-        match reading::slot_facts(&self.image, &self.geometry, slot) {
+        match self.view().and_then(|view| view.slot_facts(slot)) {
             Ok((number, entry)) => Answer::Slot {
                 slot,
                 entry: number,
@@ -151,6 +159,13 @@ impl Session {
                 flags: entry.flags,
             },
             Err(refusal) => Answer::Refused(refusal),
+        }
+    }
+
+    fn list(&self) -> Answer {
+        match self.view() {
+            Ok(view) => Answer::Listing(Listing::of(&view, self.shortcut)),
+            Err(refusal) => Answer::ListingRefused(refusal),
         }
     }
 
@@ -173,14 +188,14 @@ impl Session {
         })
     }
 
-    fn cut(&mut self, steps: u64, inside: u64) -> Answered {
+    fn cut(&mut self, steps: u64, ranges: &[(u64, u64)]) -> Answered {
         let job = self.job.take().ok_or(NotALine)?;
         if steps >= job.remaining() as u64 {
             return Err(NotALine);
         }
         // a job that a run would refuse with 12 does no step
         if job.fits(&self.image) {
-            job.cut(&mut self.image, steps as usize, inside);
+            job.torn(&mut self.image, steps as usize, ranges);
         }
         Ok(Answer::Cut)
     }

@@ -1,4 +1,4 @@
-//! The words of a line: numbers, bytes and commands.
+//! The words of a line: numbers, ranges, bytes and commands.
 
 use super::IMAGE_BYTES_MAX;
 use crate::document::commands::Command;
@@ -45,6 +45,15 @@ pub fn length_of(word: &[u8]) -> Result<usize, NotALine> {
         return Err(NotALine);
     }
     Ok(length as usize)
+}
+
+/// Pairs of numbers, at least one: where a range begins, and its length.
+pub fn ranges_of(words: &[&[u8]]) -> Result<Vec<(u64, u64)>, NotALine> {
+    if words.is_empty() || !words.len().is_multiple_of(2) {
+        return Err(NotALine);
+    }
+    let pairs = words.chunks_exact(2);
+    pairs.map(|pair| Ok((number_of(pair[0])?, number_of(pair[1])?))).collect()
 }
 
 pub fn bytes_of(word: &[u8]) -> Result<Vec<u8>, NotALine> {

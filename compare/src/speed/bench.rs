@@ -9,8 +9,10 @@ use crate::cases::flash::{partition, Flash};
 use crate::document::commands::Command;
 use crate::document::image::{Geometry, BLOCK_BYTES};
 use crate::document::pointers::PLACES;
+use crate::document::table::{ENTRIES_OFFSET, ENTRY_BYTES, NAME_BYTES};
 
-const SLOTS: [u64; 3] = [3, 40, 121];
+const MOST_SLOTS: u64 = 121;
+const SLOTS: [u64; 3] = [3, 40, MOST_SLOTS];
 const USED_PLACES: [u64; 3] = [2, 100, PLACES as u64];
 const IMAGE_LENGTHS: [(&str, usize); 3] =
     [("64 KiB", 65_536), ("1 MiB", 1_048_576), ("256 MiB", 268_435_456)];
@@ -28,13 +30,19 @@ type Round = Box<dyn FnMut(&mut [u8]) -> f64>;
 /// What is measured of one implementation.
 struct Side {
     order: fn(&Geometry) -> Round,
+    refused_order: fn(&Geometry) -> Round,
     start: fn(&Geometry, &Command) -> Round,
     run: fn(&[u8], &Geometry, &Command) -> Round,
 }
 
 impl Side {
     fn of<U: Updater + 'static>() -> Side {
-        Side { order: order_round::<U>, start: start_round::<U>, run: run_round::<U> }
+        Side {
+            order: order_round::<U>,
+            refused_order: refused_order_round::<U>,
+            start: start_round::<U>,
+            run: run_round::<U>,
+        }
     }
 }
 
@@ -62,7 +70,11 @@ pub fn measure() {
             }
             for used in USED_PLACES {
                 let flash = bench_flash(image_length, slots, used);
-                for (what, times) in measure_flash(&sides, &flash) {
+                let mut measured = measure_flash(&sides, &flash);
+                if slots == MOST_SLOTS && used == USED_PLACES[0] {
+                    measured.extend(measure_refusals(&sides, &flash));
+                }
+                for (what, times) in measured {
                     ratios.extend(print_row(slots, used, length_name, &what, &times));
                 }
             }
@@ -101,7 +113,8 @@ fn print_ratios(mut ratios: Vec<f64>) {
     );
 }
 
-/// A flash with slots spread over the image and the places used by all slots in turn.
+/// A flash with slots spread over the image and the places used by all slots in turn. Of a slot's
+/// first 4,096 bytes only the last shows that it is not empty.
 fn bench_flash(image_length: usize, slots: u64, used: u64) -> Flash {
     const BLOCK: u64 = BLOCK_BYTES as u64;
     let fixed = (0..).zip(FIXED_NAMES);
@@ -114,7 +127,9 @@ fn bench_flash(image_length: usize, slots: u64, used: u64) -> Flash {
         partitions.push(partition(&format!("P{number}"), *start, BLOCK as u32, 0));
     }
     let places: Vec<u64> = (0..used).map(|place| starts[(place * 7 % slots) as usize]).collect();
-    Flash::new(image_length, BLOCK, partitions, &places)
+    let mut flash = Flash::new(image_length, BLOCK, partitions, &places);
+    flash.contents = starts.iter().map(|start| (start + BLOCK - 1, vec![0])).collect();
+    flash
 }
 
 /// Each call on this flash, and how long it takes each side.
@@ -141,6 +156,33 @@ fn measure_flash(sides: &[Side], flash: &Flash) -> Vec<(String, Vec<f64>)> {
     }
     measured.extend(measure_command(sides, &mut image, &geometry, "repair", &Command::Repair));
     measured
+}
+
+/// Order lists that are refused 51, by rules that are found broken late. The table has one of them
+/// broken in both copies: the last two entries have the same name or start, or the first two each
+/// other's name.
+fn measure_refusals(sides: &[Side], flash: &Flash) -> Vec<(String, Vec<f64>)> {
+    let geometry = flash.geometry();
+    let entry = |number: usize, at: usize| ENTRIES_OFFSET + ENTRY_BYTES * number + at;
+    let last = flash.partitions.len() - 1;
+    let broken = [
+        ("rule 4", [(entry(last - 1, 0), entry(last, 0)); 2], NAME_BYTES),
+        ("rule 7", [(entry(last - 1, 0x10), entry(last, 0x10)); 2], 8),
+        ("rule 9", [(entry(1, 0), entry(0, 0)), (entry(0, 0), entry(1, 0))], NAME_BYTES),
+    ];
+    broken
+        .map(|(rule, copies, length)| {
+            let mut image = flash.image();
+            for table in flash.table_addresses().map(|address| address as usize) {
+                for (from, to) in copies {
+                    let bytes = &flash.table[from..from + length];
+                    image[table + to..table + to + length].copy_from_slice(bytes);
+                }
+            }
+            let rounds = sides.iter().map(|side| (side.refused_order)(&geometry)).collect();
+            (format!("order list refused 51, {rule}"), least_times(rounds, &mut image))
+        })
+        .into()
 }
 
 /// A command's start and its whole run; the image is as before afterwards.
@@ -190,6 +232,17 @@ fn order_round<U: Updater>(geometry: &Geometry) -> Round {
         time(0..CALLS, |_| {
             let count = U::order_list(black_box(image), &geometry, &mut row);
             assert!(count.is_ok());
+        })
+    })
+}
+
+fn refused_order_round<U: Updater>(geometry: &Geometry) -> Round {
+    let geometry = *geometry;
+    Box::new(move |image| {
+        let mut row = [0; PLACES];
+        time(0..CALLS, |_| {
+            let refused = U::order_list(black_box(image), &geometry, &mut row);
+            assert_eq!(refused, Err(51));
         })
     })
 }

@@ -10,7 +10,7 @@ pub use bench::measure;
 use crate::document::commands::Command;
 use crate::document::image::Geometry;
 
-/// What is measured of an implementation. Refusals are document 01's numbers.
+/// What is measured of an implementation. Refusals are the documents' numbers.
 pub trait Updater {
     type Job: Clone;
 

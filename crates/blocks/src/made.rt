@@ -74,14 +74,16 @@ pub fn no_steps(len: usize, granule: usize) -> Job
 pub fn pair_rewritten(to: Target, block: [u8; 4096]) -> Job
     ensures { λ r. ⌜ r ≡ pair-rewritten (to .len) (to .granule) (to .at0) (to .at1) block ⌝ }
 {
+    let copy1 = to.at1;
+    let copy0 = to.at0;
     let x = Rewriting {
         wanted: true,
-        at: to.at1,
+        at: copy1,
         block: block,
     };
     let y = Rewriting {
         wanted: true,
-        at: to.at0,
+        at: copy0,
         block: block,
     };
     rewrites(to.len, to.granule, x, y)

@@ -11,6 +11,7 @@ use Rattle.commands.specs.Begins.{start-result}
 use Rattle.commands.specs.declared.Begun.{Begun}
 use Rattle.commands.proofs.StartLists.{start-lists}
 use Rattle.joined.specs.Items.{Carried, carried-out, item-of, all-carried-out}
+use Rattle.joined.proofs.Items.{begins-so}
 use Rattle.joined.proofs.Theorem.{demand-3-of-code}
 use Rattle.carried.specs.Carrying.{ran-twice, as-asked, carried-twice}
 
@@ -33,5 +34,5 @@ module _ (s : Setting) (command : Command) (img : List ℕ) (begun : Begun) wher
   unfolding ran-twice carried-twice carried-out
   carried-by first second r img′ bytes names e (one, budget, went) = (
     begun,
-    (one, budget, (λ wiped. as-carried s img _ bytes names (rw e (start-lists s img command), went))),
+    (one, budget, (λ wiped. as-carried s img _ bytes names (begins-so _ _ _ _ (rw e (start-lists s img command)), went))),
   )

@@ -8,13 +8,14 @@ use lib.Dec.{eqb}
 use lib.ListN.{length}
 use Rattle.rules.specs.Lists.{same}
 use Rattle.rules.specs.Bytes.{block}
-use Rattle.rules.specs.Answers.{given}
+use Rattle.rules.specs.Answers.{given, numbered}
 use Rattle.rules.specs.declared.Setting.{Setting}
 use Rattle.rules.specs.Table.{table-stands}
 use Rattle.rules.specs.Pointers.{pointers-stand}
-use Rattle.rules.specs.Copies.{copy-read, table-read, pointers-read, view, pair-agrees, tables-agree, pointers-agree, agree-by}
+use Rattle.rules.specs.Copies.{copy-read, no-table, table-read, pointers-read, view, pair-agrees, tables-agree, pointers-agree, agree-by}
 use Rattle.rules.specs.Steps.{rewrite}
 use Rattle.rules.specs.Commands.{repair-pair, repair-steps}
+use Rattle.rules.specs.declared.Refusal.{Refusal}
 use Rattle.rules.specs.declared.View.{View}
 use Rattle.rules.proofs.Lists.Tests.{by-cases, clash, same-true}
 use Rattle.rules.proofs.Copies.CopyRead.{WhichAddress, which-address, equal-agree}
@@ -32,16 +33,16 @@ module _ {A : Type 0} (x y : A) where
 
 -- ---- one pair
 
-module _ (n : ℕ) (stands : List ℕ → Bool) (img : List ℕ) (a0 a1 read : ℕ)
-    (reads : copy-read n stands img a0 a1 ≡ given read) where
+module _ (why : Refusal) (stands : List ℕ → Bool) (img : List ℕ) (a0 a1 read : ℕ)
+    (reads : copy-read why stands img a0 a1 ≡ given read) where
   pub agree-if-equal : pair-agrees stands img a0 a1 ≡ same (block img a0) (block img a1)
   unfolding pair-agrees
   agree-if-equal =
       by-cases (same (block img a0) (block img a1))
-      (λ t. equal t (which-address n stands img a0 a1 read reads) ∙ sym t)
+      (λ t. equal t (which-address why stands img a0 a1 read reads) ∙ sym t)
       (λ f. rw f (and-with-false (stands (block img a0) && stands (block img a1))))
     where
-      equal : same (block img a0) (block img a1) ≡ true → WhichAddress n stands img a0 a1 read
+      equal : same (block img a0) (block img a1) ≡ true → WhichAddress stands img a0 a1 read
           → stands (block img a0) && stands (block img a1) && same (block img a0) (block img a1) ≡ true
       equal t (inl (stand0, _)) =
           equal-agree stands img a0 a1 stand0 (same-true (block img a0) (block img a1) t)
@@ -62,11 +63,11 @@ either-within false a b most ha hb = hb
 -- ---- both pairs
 
 module _ (s : Setting) (img : List ℕ) (v : View) (h : view s img ≡ given v) where
-  table-copy : copy-read 4 (table-stands s (length img)) img (v .spt0) (v .spt1) ≡ given (v .table)
+  table-copy : copy-read (no-table s img) (table-stands s (length img)) img (v .spt0) (v .spt1) ≡ given (v .table)
   unfolding table-read
   table-copy = let k = seen s img v h in rw (k .same-spt0, k .same-spt1) (k .table-copy)
 
-  pointer-copy : copy-read 5 pointers-stand img (v .cpb0) (v .cpb1) ≡ given (v .pointers)
+  pointer-copy : copy-read (numbered 5) pointers-stand img (v .cpb0) (v .cpb1) ≡ given (v .pointers)
   unfolding pointers-read
   pointer-copy = let k = seen s img v h in rw (k .same-cpb0, k .same-cpb1) (k .pointer-copy)
 
@@ -77,8 +78,8 @@ module _ (s : Setting) (img : List ℕ) (v : View) (h : view s img ≡ given v) 
       rw (
         k .same-spt0,
         k .same-spt1,
-        agree-if-equal 4 (table-stands s (length img)) img (s .spt0) (s .spt1) (v .table) (k .table-copy),
-        agree-if-equal 5 pointers-stand img (v .cpb0) (v .cpb1) (v .pointers) pointer-copy,
+        agree-if-equal (no-table s img) (table-stands s (length img)) img (s .spt0) (s .spt1) (v .table) (k .table-copy),
+        agree-if-equal (numbered 5) pointers-stand img (v .cpb0) (v .cpb1) (v .pointers) pointer-copy,
       )
 
   pub repair-by-copies : repair-steps s img v
@@ -86,6 +87,6 @@ module _ (s : Setting) (img : List ℕ) (v : View) (h : view s img ≡ given v) 
   unfolding repair-steps
   repair-by-copies =
       rw (
-        repair-if-different 4 (table-stands s (length img)) img (v .spt0) (v .spt1) (v .table) table-copy,
-        repair-if-different 5 pointers-stand img (v .cpb0) (v .cpb1) (v .pointers) pointer-copy,
+        repair-if-different (no-table s img) (table-stands s (length img)) img (v .spt0) (v .spt1) (v .table) table-copy,
+        repair-if-different (numbered 5) pointers-stand img (v .cpb0) (v .cpb1) (v .pointers) pointer-copy,
       )

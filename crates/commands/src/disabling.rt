@@ -11,6 +11,7 @@ use blocks::pointers;
 use blocks::tables;
 use jobs::Job;
 use places::Places;
+use rules::NO_FAULT;
 use rules::Refusal;
 use rules::Setting;
 use rules::SlotNo;
@@ -47,7 +48,11 @@ pub fn disable_by(image: &[u8], setting: Setting, v: View, slot: SlotNo) -> Begu
             let start = tables::slot_start(t, rows, slot);
             let found = pointers::giving(t, rows, p, places, slot, start);
             if found.count == 0 {
-                return refusals::refuse(Refusal { number: 8 });
+                return refusals::refuse(Refusal {
+                    number: 8,
+                    fault0: NO_FAULT,
+                    fault1: NO_FAULT,
+                });
             }
             let at0 = v.cpb0 as u32;
             let at1 = v.cpb1 as u32;

@@ -10,6 +10,7 @@ use blocks::pointers;
 use blocks::tables;
 use jobs::Job;
 use places::Places;
+use rules::NO_FAULT;
 use rules::Refusal;
 use rules::Setting;
 use rules::SlotNo;
@@ -42,7 +43,11 @@ pub fn enable_by(image: &[u8], setting: Setting, v: View, slot: SlotNo) -> Begun
             let rows = slots::rows_of(t);
             let start = tables::slot_start(t, rows, slot);
             if copies::is_erased(image, start as usize) {
-                return refusals::refuse(Refusal { number: 14 });
+                return refusals::refuse(Refusal {
+                    number: 14,
+                    fault0: NO_FAULT,
+                    fault1: NO_FAULT,
+                });
             }
             let pointers_at = v.pointers;
             let p = fields::block_at(image, pointers_at);

@@ -2,6 +2,7 @@
 use super::Begun;
 use super::Outcome;
 use jobs::Job;
+use rules::NO_FAULT;
 use rules::Refusal;
 use rules::SlotNo;
 use rules::View;
@@ -34,12 +35,20 @@ pub fn ask_slot(image: &[u8], v: View, slot: SlotNo) -> Outcome
     ensures { λ r. ⌜ outcome r ≡ slot-asked (now (image .entry)) v (slot .0) ⌝ }
 {
     if !(copies::same_blocks(image, v.spt0, v.spt1) & copies::same_blocks(image, v.cpb0, v.cpb1)) {
-        return Outcome::Refused(Refusal { number: 6 });
+        return Outcome::Refused(Refusal {
+            number: 6,
+            fault0: NO_FAULT,
+            fault1: NO_FAULT,
+        });
     }
     let at = v.table;
     let t = fields::block_at(image, at);
     if slots::count_slots(t, entries::entry_count(t)) <= slot.0 as usize {
-        return Outcome::Refused(Refusal { number: 7 });
+        return Outcome::Refused(Refusal {
+            number: 7,
+            fault0: NO_FAULT,
+            fault1: NO_FAULT,
+        });
     }
     Outcome::Started
 }

@@ -7,6 +7,7 @@ use blocks::made;
 use blocks::tables;
 use jobs::Job;
 use rules::EntryNo;
+use rules::NO_FAULT;
 use rules::Refusal;
 use rules::Setting;
 use rules::SlotNo;
@@ -36,14 +37,22 @@ pub fn rename_by(image: &[u8], setting: Setting, v: View, slot: SlotNo, name: &[
         Outcome::Refused(why) => refusals::refuse(why),
         Outcome::Started => {
             if !tables::name_allowed(name) {
-                return refusals::refuse(Refusal { number: 9 });
+                return refusals::refuse(Refusal {
+                    number: 9,
+                    fault0: NO_FAULT,
+                    fault1: NO_FAULT,
+                });
             }
             let table_at = v.table;
             let t = fields::block_at(image, table_at);
             let n = entries::entry_count(t);
             let row = slots::slot_row(t, n, slot);
             if !tables::name_free(t, n, row, name) {
-                return refusals::refuse(Refusal { number: 10 });
+                return refusals::refuse(Refusal {
+                    number: 10,
+                    fault0: NO_FAULT,
+                    fault1: NO_FAULT,
+                });
             }
             let at0 = v.spt0 as u32;
             let at1 = v.spt1 as u32;

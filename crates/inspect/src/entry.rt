@@ -4,6 +4,7 @@ use reading::Known;
 use reading::Viewed;
 use rules::EntryNo;
 use rules::Facts;
+use rules::NO_FAULT;
 use rules::Refusal;
 use rules::Setting;
 ghost use mathlib.Core.Path.{_≡_};
@@ -61,7 +62,11 @@ fn info_in(t: &[u8], entry: EntryNo) -> Known
     ensures { λ r. ⌜ known r ≡ info-in (entries (now (t .entry))) (entry .0) ⌝ }
 {
     if entries::entry_count(t) <= entry.0 {
-        return Known::Refused(Refusal { number: 92 });
+        return Known::Refused(Refusal {
+            number: 92,
+            fault0: NO_FAULT,
+            fault1: NO_FAULT,
+        });
     }
     Known::Is(Facts {
         entry: entry,

@@ -3,6 +3,7 @@ use super::Held;
 use super::Holding;
 use super::Total;
 use reading::Viewed;
+use rules::NO_FAULT;
 use rules::PlaceNo;
 use rules::Refusal;
 use rules::Setting;
@@ -51,7 +52,11 @@ fn held_in(t: &[u8], p: &[u8], place: PlaceNo) -> Holding
 {
     let places = places::places_of(p);
     if places.count <= place.0 {
-        return Holding::Refused(Refusal { number: 93 });
+        return Holding::Refused(Refusal {
+            number: 93,
+            fault0: NO_FAULT,
+            fault1: NO_FAULT,
+        });
     }
     let value = places::place_value(p, places, place);
     let judgement = places::judge(t, slots::rows_of(t), value);

@@ -1,5 +1,6 @@
 // A job: the list of steps of a command, by value. Running it, what remains of it, which step comes next, steps that
 // were carried out elsewhere.
+use rules::NO_FAULT;
 use rules::Refusal;
 use rules::Step;
 use windows::Window;
@@ -124,10 +125,18 @@ pub fn run_lent<'a>(
 {
     let count = parts::step_count(plan);
     if count <= done {
-        return Did::Refused(Refusal { number: 11 });
+        return Did::Refused(Refusal {
+            number: 11,
+            fault0: NO_FAULT,
+            fault1: NO_FAULT,
+        });
     }
     if (image.len() != plan.len) | !parts::steps_inside(plan, places, done, image.len()) {
-        return Did::Refused(Refusal { number: 12 });
+        return Did::Refused(Refusal {
+            number: 12,
+            fault0: NO_FAULT,
+            fault1: NO_FAULT,
+        });
     }
     let window = Window {
         from: done,
@@ -198,7 +207,11 @@ pub fn counted_of(plan: Plan, done: usize, n: usize) -> Did
 {
     let left = remaining_of(plan, done);
     if left == 0 {
-        return Did::Refused(Refusal { number: 11 });
+        return Did::Refused(Refusal {
+            number: 11,
+            fault0: NO_FAULT,
+            fault1: NO_FAULT,
+        });
     }
     Did::Steps(numbers::least(n, left))
 }

@@ -18,9 +18,16 @@ use Rattle.rules.proofs.Claim.Viewing.{viewed, beginning, holds-at-first}
 use Rattle.rules.proofs.Claim.OneItem.{one-item}
 use Rattle.rules.proofs.Claim.EveryJob.{the-commands-right}
 use Rattle.commands.specs.Begins.{begins}
+use Rattle.commands.specs.declared.Begun.{Begun}
 use Rattle.joined.specs.Runs.{all-ran, left-by-runs}
-use Rattle.joined.specs.Items.{Carried, carried-out, flash-left, ended-as, ending, item-of}
+use Rattle.joined.specs.Items.{Carried, begun-so, carried-out, flash-left, ended-as, ending, item-of}
 use Rattle.joined.proofs.Runs.{runs-of-job, nothing-done}
+
+-- what the contract of a start gives is enough
+pub begins-so : (b : Begun) (len g : ℕ) (a : Answer (List Step)) → begins b len g a → begun-so b len g a
+unfolding begins begun-so
+begins-so b len g (refused why) e = (why, e, refl)
+begins-so b len g (given ss) h = h
 
 module _ (s : Setting) (img : List ℕ) (c : Carried) where
   -- runs of a started job leave exactly the image and the steps of the book's progress
@@ -28,10 +35,10 @@ module _ (s : Setting) (img : List ℕ) (c : Carried) where
       → Bytes img
       → name-bytes (c .command)
       → start s img (c .command) ≡ given ss
-      → begins (c .begun) (length img) (s .granule) (given ss)
+      → begun-so (c .begun) (length img) (s .granule) (given ss)
       → all-ran (c .begun .job) img (c .runs)
       → left-by-runs (c .begun .job) img (c .runs) ≡ progress (s .granule) (item-of c) img ss
-  unfolding begins progress item-of
+  unfolding begun-so progress item-of
   runs-are-progress ss bytes names e (answer, lists) went =
       runs-of-job (s .granule) ss (c .begun .job) img (c .runs) lists
       (never-refused-12 s img (c .command) ss bytes names e) went
@@ -42,19 +49,19 @@ module _ (s : Setting) (img : List ℕ) (c : Carried) where
       × (ending img c ≡ ended-by (s .granule) (item-of c) img a)
 
   when-given : (ss : List Step)
-      → begins (c .begun) (length img) (s .granule) (given ss)
+      → begun-so (c .begun) (length img) (s .granule) (given ss)
       → left-by-runs (c .begun .job) img (c .runs) ≡ progress (s .granule) (item-of c) img ss
       → Same (given ss)
-  unfolding begins flash-left ending ended-as left-by ended-by item-of
+  unfolding begun-so flash-left ending ended-as left-by ended-by item-of
   when-given ss (answer, lists) left =
       (ap (dropped (s .granule) (c .wiped)) left, rw answer (ap (λ (p : Progress). how-ended (p .left)) left))
 
   when-refused : (why : Refusal)
-      → begins (c .begun) (length img) (s .granule) (refused why)
+      → begun-so (c .begun) (length img) (s .granule) (refused why)
       → all-ran (c .begun .job) img (c .runs)
       → Same (refused why)
-  unfolding begins flash-left ending ended-as left-by ended-by dropped half-done
-  when-refused why e went =
+  unfolding begun-so flash-left ending ended-as left-by ended-by dropped half-done
+  when-refused why (told, e, _) went =
       let none = nothing-done img (c .runs) (rw e at went) in
       (rw e (ap (dropped (s .granule) (c .wiped)) none), rw e)
 
@@ -67,7 +74,7 @@ module _ (s : Setting) (img : List ℕ) (c : Carried) where
     where
       by-answer : (a : Answer (List Step))
           → start s img (c .command) ≡ a
-          → begins (c .begun) (length img) (s .granule) a
+          → begun-so (c .begun) (length img) (s .granule) a
           → Same (start s img (c .command))
       by-answer (refused why) e b = rw e (when-refused why b went)
       by-answer (given ss) e b = rw e (when-given ss b (runs-are-progress ss bytes names e b went))

@@ -1,14 +1,18 @@
 -- An item carried out by the code, as its caller sees it: a start, and runs of the job that it returned. Assumes nothing.
+use mathlib.Core.Path.{_≡_}
 use mathlib.Core.Bool.{Bool}
 use mathlib.Core.List.{List, [], _∷_, map}
 use Prim.Native.Nat.{ℕ}
 use lib.ListN.{length}
+use Rattle.rules.specs.Answers.{Answer, refused, given}
 use Rattle.rules.specs.declared.Setting.{Setting}
+use Rattle.rules.specs.declared.Refusal.{Refusal}
 use Rattle.rules.specs.Commands.{Command, start}
 use Rattle.rules.specs.Cuts.{dropped}
 use Rattle.rules.specs.Book.{the-commands, Item, Outcome, was-refused, how-ended}
 use Rattle.rules.specs.declared.Step.{Step}
-use Rattle.commands.specs.Begins.{begins}
+use Rattle.blocks.specs.Made.{Lists}
+use Rattle.commands.specs.Begins.{refusal}
 use Rattle.commands.specs.declared.Begun.{Begun}
 use Rattle.commands.specs.declared.Outcome.{Outcome as Answered}
 use Rattle.commands.specs.declared.Outcome.the-variants.{Started, Refused}
@@ -21,11 +25,16 @@ pub record Carried : Type 0 where
   pub runs : List Run
   pub wiped : List Bool
 
--- it is as the contracts of the start and of `jobs::run` say, from this flash. Of a start nothing but this is used: it
--- is refused with document 01's number, or returns a job of the listed steps
+-- a start was refused with the number of that refusal, and the job of no steps stands beside it; or it returned a job of
+-- these steps, for an image of this length and with this granule
+unfoldable pub begun-so : Begun → ℕ → ℕ → Answer (List Step) → Type 0
+begun-so b len g (refused why) = (told : Refusal) × (b ≡ refusal told) × (told .number ≡ why .number)
+begun-so b len g (given ss) = (b .answer ≡ Started) × Lists (b .job) len g ss
+
+-- it is as the contracts of the start and of `jobs::run` say, from this flash. Of a start nothing but `begun-so` is used
 unfoldable pub carried-out : Setting → List ℕ → Carried → Type 0
 carried-out s img c =
-    begins (c .begun) (length img) (s .granule) (start s img (c .command)) × all-ran (c .begun .job) img (c .runs)
+    begun-so (c .begun) (length img) (s .granule) (start s img (c .command)) × all-ran (c .begun .job) img (c .runs)
 
 -- the flash that it leaves
 unfoldable pub flash-left : Setting → List ℕ → Carried → List ℕ

@@ -8,6 +8,7 @@ use borrow.Author.Tests.{eq-eqb}
 use lib.ListN.{length}
 use Rattle.rules.specs.Answers.{Answer, refused, given, unless, _>>=_, numbered}
 use Rattle.rules.specs.declared.Setting.{Setting}
+use Rattle.rules.specs.declared.Refusal.{Refusal}
 use Rattle.rules.specs.Commands.{start}
 use Rattle.rules.specs.Cuts.{Progress, run}
 use Rattle.rules.specs.declared.Step.{Step}
@@ -19,15 +20,14 @@ use Rattle.jobs.specs.declared.Did.the-variants.{Steps, Refused}
 use Rattle.jobs.specs.declared.Ran.{Ran}
 use Rattle.jobs.proofs.Running.{run-returned}
 use Rattle.blocks.specs.Made.{Lists, no-job}
-use Rattle.commands.specs.Begins.{begins}
 use Rattle.commands.specs.declared.Begun.{Begun}
 use Rattle.job_bytes.specs.Form.{job-size, malformed, job-from, holds-job, decoded}
 use Rattle.linked.specs.Begun.{for-job, begun-as}
 use Rattle.linked.specs.Ran.{Lent, lent, Running, running, ran-as}
 use Rattle.joined.specs.Runs.{Run, all-ran}
-use Rattle.joined.specs.Items.{Carried, carried-out, flash-left, all-carried-out}
+use Rattle.joined.specs.Items.{Carried, begun-so, carried-out, flash-left, all-carried-out}
 use Rattle.joined_for_c.specs.Items.{RunForC, all-ran-for-c, CarriedForC, begun-for-c, runs-after, carried-out-for-c, did-by, run-by-value, begun-by-value, by-value, all-carried-out-for-c}
-use Rattle.joined_for_c.proofs.RefusalNumbers.{NotZero, start-not-zero, run-not-zero}
+use Rattle.joined_for_c.proofs.RefusalNumbers.{NotZero, start-not-zero, run-not-zero, Plain, run-plain}
 
 -- ---- a buffer that holds a job
 
@@ -88,17 +88,20 @@ module _ (bytes img : List ℕ) (r : RunForC) where
       → ran-as (r .number) (r .budget) (lent bytes img (r .count)) (r .left) (running bytes img)
       → Went
   unfolding running ran-as _>>=_ admitted
-  one-run holds went = by-answer (admitted j img) refl (run-not-zero (j .plan .granule) (j .plan .len) (under-way j img))
-      (rw holds at went)
+  one-run holds went =
+      by-answer (admitted j img) refl (run-not-zero (j .plan .granule) (j .plan .len) (under-way j img))
+      (run-plain (j .plan .granule) (j .plan .len) (under-way j img)) (rw holds at went)
     where
       by-answer : (a : Answer Progress)
           → admitted j img ≡ a
           → NotZero a
+          → Plain a
           → ran-as (r .number) (r .budget) (lent bytes img (r .count)) (r .left)
           (a >>= λ p. given (record { job = j; progress = p }))
           → Went
-      by-answer (refused why) e positive (number, left) = run-refused (why .number) holds positive e number left
-      by-answer (given p) e positive (number, (job, (image, (done, bytes)))) = run-went p e number job image done
+      by-answer (refused why) e positive plain (number, left) =
+          run-refused (why .number) holds positive (e ∙ ap refused plain) number left
+      by-answer (given p) e positive plain (number, (job, (image, (done, bytes)))) = run-went p e number job image done
 
 runs-by-value : (rs : List RunForC) (bytes img : List ℕ)
     → Held bytes
@@ -123,22 +126,25 @@ lists-by-value number before after len granule ss (none, (j, holds, lists)) =
 module _ (s : Setting) (img : List ℕ) (c : CarriedForC) where
   abbrev Carry : Answer (List Step) → Type 0
   Carry a =
-      begins (by-value c .begun) (length img) (s .granule) a × all-ran (by-value c .begun .job) img (by-value c .runs)
+      begun-so (by-value c .begun) (length img) (s .granule) a × all-ran (by-value c .begun .job) img (by-value c .runs)
 
   no-runs : (j : Job) → c .runs ≡ [] → all-ran j img (map run-by-value (c .runs))
   unfolding all-ran
   no-runs j e = rw e tt
 
-  item-refused : (n : ℕ) → 0 < n → c .number ≡ n → runs-after (c .number) (c .begun) img (c .runs) → Carry (refused (numbered n))
-  unfolding begins by-value begun-by-value runs-after
-  item-refused zero positive number none = absurd (omega (arith, positive))
-  item-refused (suc n) positive number none = rw number (refl, no-runs no-job (rw number at none))
+  item-refused : (n : ℕ) (why : Refusal) → 0 < n → c .number ≡ n → n ≡ why .number
+      → runs-after (c .number) (c .begun) img (c .runs)
+      → Carry (refused why)
+  unfolding begun-so by-value begun-by-value runs-after
+  item-refused zero why positive number same none = absurd (omega (arith, positive))
+  item-refused (suc n) why positive number same none =
+      rw number ((numbered (suc n), refl, same), no-runs no-job (rw number at none))
 
   item-started : (ss : List Step)
       → begun-as (c .number) (c .buffer) (c .begun) (length img) (s .granule) (given ss)
       → runs-after (c .number) (c .begun) img (c .runs)
       → Carry (given ss)
-  unfolding begins by-value begun-by-value runs-after
+  unfolding begun-so by-value begun-by-value runs-after
   item-started ss begun went =
       let (number, (holds, lists)) = lists-by-value (c .number) (c .buffer) (c .begun) (length img) (s .granule) ss begun in
       rw number ((refl, lists), runs-by-value (c .runs) (c .begun) img holds (rw number at went))
@@ -153,7 +159,7 @@ module _ (s : Setting) (img : List ℕ) (c : CarriedForC) where
           → NotZero a
           → begun-as (c .number) (c .buffer) (c .begun) (length img) (s .granule) a
           → Carry a
-      by-answer (refused why) positive b = item-refused (why .number) positive (unfold begun-as in b .0) went
+      by-answer (refused why) positive b = item-refused (why .number) why positive (unfold begun-as in b .0) refl went
       by-answer (given ss) positive b = item-started ss b went
 
 pub items-by-value : (s : Setting) (cs : List CarriedForC) (img : List ℕ)

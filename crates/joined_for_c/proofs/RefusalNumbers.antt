@@ -1,12 +1,15 @@
 -- No refusal has the number 0, so that for C 0 says that there was none. Assumes nothing.
-use mathlib.Core.Bool.{Bool, true, false, cond}
+use mathlib.Core.Path.{_≡_, refl}
+use mathlib.Core.Bool.{Bool, true, false, cond, _||_}
 use mathlib.Core.List.{List}
 use Prim.Native.Nat.{ℕ, _<_}
 use native.Mathlib.Omega.{arith}
 use Rattle.rules.specs.Bytes.{block}
-use Rattle.rules.specs.Answers.{Answer, refused, given, unless, _>>=_}
+use Rattle.rules.specs.Answers.{Answer, refused, given, numbered, unless, _>>=_}
 use Rattle.rules.specs.declared.Setting.{Setting}
-use Rattle.rules.specs.Copies.{copy-read, table-read, pointers-read, view-through, view}
+use Rattle.rules.specs.declared.Refusal.{Refusal}
+use Rattle.rules.specs.Table.{magic-right}
+use Rattle.rules.specs.Copies.{copy-read, no-table, table-read, pointers-read, view-through, view}
 use Rattle.rules.specs.Commands.{Command, enable, disable, rename, repair, job, start}
 use Rattle.rules.specs.Cuts.{Progress, may-run}
 use Rattle.rules.specs.declared.View.{View}
@@ -28,18 +31,24 @@ unfolding _>>=_
 bind-not-zero (refused why) f h k = h
 bind-not-zero (given x) f h k = k x
 
-copy-not-zero : (n : ℕ) (stands : List ℕ → Bool) (img : List ℕ) (a0 a1 : ℕ)
-    → 0 < n
-    → NotZero (copy-read n stands img a0 a1)
+copy-not-zero : (why : Refusal) (stands : List ℕ → Bool) (img : List ℕ) (a0 a1 : ℕ)
+    → 0 < why .number
+    → NotZero (copy-read why stands img a0 a1)
 unfolding copy-read
-copy-not-zero n stands img a0 a1 h = by-first (stands (block img a0))
+copy-not-zero why stands img a0 a1 h = by-first (stands (block img a0)) (stands (block img a1))
   where
-    second : Answer ℕ
-    second = unless n (stands (block img a1)) (given a1)
+    by-first : (t u : Bool) → NotZero (cond t (given a0) (cond u (given a1) (refused why)))
+    by-first true u = tt
+    by-first false true = tt
+    by-first false false = h
 
-    by-first : (t : Bool) → NotZero (cond t (given a0) second)
-    by-first true = tt
-    by-first false = unless-not-zero ℕ n (stands (block img a1)) (given a1) h tt
+no-table-not-zero : (s : Setting) (img : List ℕ) → 0 < no-table s img .number
+unfolding no-table
+no-table-not-zero s img = by-magic (magic-right (block img (s .spt0)) || magic-right (block img (s .spt1)))
+  where
+    by-magic : (t : Bool) → 0 < cond t 51 50
+    by-magic true = omega arith
+    by-magic false = omega arith
 
 view-not-zero : (s : Setting) (img : List ℕ) → NotZero (view s img)
 unfolding view table-read view-through pointers-read
@@ -47,7 +56,7 @@ view-not-zero s img =
     unless-not-zero _ _ _ _ (omega arith)
     (unless-not-zero _ _ _ _ (omega arith)
     (unless-not-zero _ _ _ _ (omega arith)
-    (bind-not-zero _ _ (copy-not-zero _ _ _ _ _ (omega arith))
+    (bind-not-zero _ _ (copy-not-zero _ _ _ _ _ (no-table-not-zero s img))
     (λ at. bind-not-zero _ _ (copy-not-zero _ _ _ _ _ (omega arith)) (λ p. tt)))))
 
 job-not-zero : (s : Setting) (img : List ℕ) (v : View) (c : Command) → NotZero (job s img v c)
@@ -68,3 +77,18 @@ start-not-zero s img c = bind-not-zero (view s img) _ (view-not-zero s img) (λ 
 pub run-not-zero : (g len : ℕ) (p : Progress) → NotZero (may-run g len p)
 unfolding may-run
 run-not-zero g len p = unless-not-zero _ _ _ _ (omega arith) (unless-not-zero _ _ _ _ (omega arith) tt)
+
+-- ---- a refusal of a run is its number and nothing more
+
+abbrev pub Plain : {A : Type 0} → Answer A → Type 0
+Plain (refused why) = why ≡ numbered (why .number)
+Plain (given a) = Unit {0}
+
+unless-plain : (A : Type 0) (n : ℕ) (t : Bool) (a : Answer A) → Plain a → Plain (unless n t a)
+unfolding unless
+unless-plain A n true a h = h
+unless-plain A n false a h = refl
+
+pub run-plain : (g len : ℕ) (p : Progress) → Plain (may-run g len p)
+unfolding may-run
+run-plain g len p = unless-plain _ _ _ _ (unless-plain _ _ _ _ tt)

@@ -3,6 +3,7 @@ use super::judgements;
 use inspect::Holding;
 use inspect::Inspected;
 use inspect::Total;
+use reading::Faults;
 use reading::Known;
 use reading::Viewed;
 use rules::EntryNo;
@@ -12,7 +13,7 @@ ghost use mathlib.Core.Path.{_≡_};
 ghost use lib.ListN.{length};
 ghost use Rattle.rules.specs.Numbers.{setting};
 ghost use Rattle.rules.specs.Copies.{view};
-ghost use Rattle.rules.specs.Readers.{row-after};
+ghost use Rattle.rules.specs.Readers.{row-after, table-faults};
 ghost use Rattle.inspect.specs.Condition.{condition};
 ghost use Rattle.inspect.specs.Entries.{entry-total};
 ghost use Rattle.inspect.specs.Places.{place-total, place-at};
@@ -124,6 +125,59 @@ pub extern "C" fn delunkpawi_copies(
             *pointers1 = judgements::bit(k.cpb1);
             *tables = judgements::bit(k.tables);
             *pointers = judgements::bit(k.pointers);
+            0
+        }
+    }
+}
+
+// For each of SPT0 and SPT1 the first broken rule, 1 to 11, and the entry that breaks it, 127 where the rule is about no
+// entry by itself; 0 and 127 for a copy that stands. Refused 1 to 3 only.
+#[no_mangle]
+pub extern "C" fn delunkpawi_table_faults(
+    image: &[u8],
+    granule: usize,
+    spt0: usize,
+    spt1: usize,
+    rule0: &mut u8,
+    entry0: &mut usize,
+    rule1: &mut u8,
+    entry1: &mut usize,
+) -> u8
+    ensures { λ r. ⌜ r ≡ number (table-faults (setting granule spt0 spt1) (now (image .entry))) ⌝ }
+    ensures { λ _. ⌜
+        now (rule0 .exit) ≡ kept (λ f. f .fault0 .rule)
+        (table-faults (setting granule spt0 spt1) (now (image .entry))) (now (rule0 .entry))
+        ⌝ }
+    ensures { λ _. ⌜
+        now (entry0 .exit) ≡ kept (λ f. f .fault0 .entry .0)
+        (table-faults (setting granule spt0 spt1) (now (image .entry))) (now (entry0 .entry))
+        ⌝ }
+    ensures { λ _. ⌜
+        now (rule1 .exit) ≡ kept (λ f. f .fault1 .rule)
+        (table-faults (setting granule spt0 spt1) (now (image .entry))) (now (rule1 .entry))
+        ⌝ }
+    ensures { λ _. ⌜
+        now (entry1 .exit) ≡ kept (λ f. f .fault1 .entry .0)
+        (table-faults (setting granule spt0 spt1) (now (image .entry))) (now (entry1 .entry))
+        ⌝ }
+{
+    let setting = Setting {
+        granule: granule,
+        spt0: spt0,
+        spt1: spt1,
+    };
+    let faults = reading::table_faults(image, setting);
+    match faults {
+        Faults::Refused(why) => why.number,
+        Faults::Are(f) => {
+            let fault0 = f.fault0;
+            let fault1 = f.fault1;
+            let e0 = fault0.entry;
+            let e1 = fault1.entry;
+            *rule0 = fault0.rule;
+            *entry0 = e0.0;
+            *rule1 = fault1.rule;
+            *entry1 = e1.0;
             0
         }
     }

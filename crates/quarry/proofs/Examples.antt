@@ -3,22 +3,23 @@
 use mathlib.Core.Path.{_≡_, refl}
 use mathlib.Core.Bool.{Bool, true, false}
 use mathlib.Core.List.{List, [], _∷_, _++_, map}
-use Prim.Native.Nat.{ℕ, _+_, _*_}
+use Prim.Native.Nat.{ℕ, suc, _+_, _*_}
 use lib.Dec.{eqb, ltb}
 use lib.ListN.{take, drop, length, getD, replicate}
-use Rattle.rules.specs.Lists.{same, without, pairwise, keep, first}
+use Rattle.rules.specs.Lists.{same, without, pairwise, first-failing, first-clash, keep, first}
 use Rattle.rules.specs.Bytes.{little-endian, bytes-of, field, block, up-to-zero, multiple}
-use Rattle.rules.specs.Answers.{refused, given, unless, _>>=_, numbered}
+use Rattle.rules.specs.Answers.{refused, given, unless, _>>=_, broken, no-fault, numbered}
 use Rattle.rules.specs.Numbers.{setting, length-right, granule-right, addresses-right}
-use Rattle.rules.specs.Table.{Entry, entry, entry-count, entries, spt0-name, cpb0-name, cpb1-name, has-name, is-fixed-name, no-entry, named, cpb0-of, header-right, count-right, name-right, names-differ, range-aligned, range-inside, ranges-apart, six-named, boot-info-at-0, tables-as-told, on-granules, blocks-on-granules, table-stands, is-slot, starts}
+use Rattle.rules.specs.Table.{Entry, entry, entry-count, entries, boot-info, spt0-name, cpb0-name, cpb1-name, has-name, is-fixed-name, no-entry, named, cpb0-of, header-right, count-right, name-right, names-differ, range-aligned, range-inside, ranges-apart, six-named, boot-info-at-0, tables-as-told, on-granules, blocks-on-granules, table-stands, entries-fault, fault, is-slot, starts}
 use Rattle.rules.specs.Pointers.{pointers-stand, places, erased-value, judged, order}
-use Rattle.rules.specs.Copies.{copy-read, pair-agrees, dump-stands, standing-dump}
+use Rattle.rules.specs.Copies.{copy-read, no-table, pair-agrees, dump-stands, standing-dump}
 use Rattle.rules.specs.Readers.{order-in, row-after, slot-row, facts, name-in}
 use Rattle.rules.specs.Steps.{programmed, wiped, steps, programs, rewrite, rewrite-pair}
 use Rattle.rules.specs.Commands.{pointer-bytes, filled, pointers-of, free-place, is-first, slot-empty, into-place, append-steps, giving, into-places, half-cleared-names, padded-name, put-name, name-allowed, name-free, rename-steps, repair-pair, enable, disable, rename}
 use Rattle.rules.specs.Cuts.{Progress, run, may-run, runs, wiped-where, half-done, dropped}
 use Rattle.rules.specs.Book.{Reading, the-commands, was-refused, finished, cut, how-ended, renamed, booked}
 use Rattle.quarry.specs.Quarry.{quarry-setting, padded, entry-bytes, quarry-table, quarry-pointers}
+use Rattle.rules.specs.declared.Fault.{Fault}
 use Rattle.rules.specs.declared.Place.the-variants.{Erased, Spent, Live, PartWritten, Stray}
 use Rattle.rules.specs.declared.Step.{Step}
 use Rattle.rules.specs.declared.Step.the-variants.{Program, Erase}
@@ -122,6 +123,46 @@ table-examples :
 unfolding rules table
 table-examples = (refl, refl, refl, refl)
 
+-- the quarry table's entries with another at a row
+abbrev with-entry : ℕ → Entry → List Entry
+with-entry k e = take k (entries table) ++ (e ∷ drop (suc k) (entries table))
+
+-- entries with this name, or with this start
+abbrev slot-of-name : List ℕ → Entry
+slot-of-name n = record { name-field = n; start = 0xA000; size = 0x1000; flags = 0 }
+
+abbrev slot-from : ℕ → Entry
+slot-from start = record { name-field = 81 ∷ []; start = start; size = 0x1000; flags = 0 }
+
+abbrev boot-info-from : ℕ → Entry
+boot-info-from start = record { name-field = boot-info; start = start; size = 0x1000; flags = 1 }
+
+-- what is told of rules 3 to 11 in an image of 0xC000 bytes
+abbrev told : List Entry → Fault
+told es = entries-fault quarry-setting 0xC000 es
+
+-- the first broken rule and its entry: rules 1 and 2, then 3 to 11, and which of two is told
+fault-examples :
+    (first-failing (ltb 1) (2 ∷ 3 ∷ 1 ∷ 0 ∷ []) ≡ 2)
+    × (map (first-clash ltb []) ((1 ∷ 3 ∷ 2 ∷ 1 ∷ []) ∷ (1 ∷ 2 ∷ []) ∷ []) ≡ 2 ∷ 2 ∷ [])
+    × (map (fault quarry-setting 0xC000) ([] ∷ (take 4 table ++ (1 ∷ drop 5 table)) ∷ table ∷ [])
+    ≡ broken 1 127 ∷ broken 1 127 ∷ no-fault ∷ [])
+    × (map (λ n. fault quarry-setting 0xC000 (take 8 table ++ (n ∷ drop 9 table))) (0 ∷ 128 ∷ [])
+    ≡ broken 2 127 ∷ broken 2 127 ∷ [])
+    × (told (with-entry 7 (slot-of-name []) ++ (slot-of-name [] ∷ [])) ≡ broken 3 7)
+    × (map (λ k. told (with-entry k (slot-of-name spt0-name))) (1 ∷ 8 ∷ []) ≡ broken 4 2 ∷ broken 4 8 ∷ [])
+    × (told (with-entry 7 (slot-from 0x9001) ++ (slot-from 0x9001 ∷ [])) ≡ broken 4 9)
+    × (map (λ a. told (with-entry 7 (slot-from a))) (0x9001 ∷ 0xC000 ∷ 0x8000 ∷ 0xA000 ∷ [])
+    ≡ broken 5 7 ∷ broken 6 7 ∷ broken 7 7 ∷ broken 7 8 ∷ [])
+    × (told (drop 1 (entries table)) ≡ broken 8 127)
+    × (told (with-entry 0 (boot-info-from 0xB000)) ≡ broken 9 0)
+    × (map (λ s. fault s 0xC000 table)
+    (setting 4096 0x5000 0x4000 ∷ setting 4096 0x4000 0x9000 ∷ setting 32768 0x4000 0x5000 ∷ [])
+    ≡ broken 10 2 ∷ broken 10 3 ∷ broken 11 2 ∷ [])
+    × (told (entries table) ≡ no-fault)
+unfolding rules table
+fault-examples = (refl, refl, refl, refl, refl, refl, refl, refl, refl, refl, refl, refl)
+
 -- ---- pointer blocks
 
 pointer-examples :
@@ -142,9 +183,14 @@ pointer-examples = (refl, refl, refl, refl, refl, refl, refl, refl)
 -- ---- copies and dumps
 
 copy-and-dump-examples :
-    (copy-read 4 begins-with-1 (1 ∷ 1 ∷ []) 0 1 ≡ given 0)
-    × (copy-read 4 begins-with-1 (2 ∷ 1 ∷ []) 0 1 ≡ given 1)
-    × (copy-read 4 begins-with-1 (2 ∷ 2 ∷ []) 0 1 ≡ refused (numbered 4))
+    (copy-read (numbered 5) begins-with-1 (1 ∷ 1 ∷ []) 0 1 ≡ given 0)
+    × (copy-read (numbered 5) begins-with-1 (2 ∷ 1 ∷ []) 0 1 ≡ given 1)
+    × (copy-read (numbered 5) begins-with-1 (2 ∷ 2 ∷ []) 0 1 ≡ refused (numbered 5))
+    × (map (λ img. no-table (setting 4096 0 8) img .number)
+    (replicate 16 0 ∷ (bytes-of 8 0 ++ bytes-of 4 0x57713427) ∷ (bytes-of 4 0x57713427 ++ bytes-of 4 1) ∷ [])
+    ≡ 50 ∷ 51 ∷ 51 ∷ [])
+    × (no-table (setting 4096 0 0x1000) (table ++ replicate 4096 0)
+    ≡ record { number = 51; fault0 = broken 6 1; fault1 = broken 1 127 })
     × (pair-agrees begins-with-1 (1 ∷ 1 ∷ []) 0 1 ≡ false)
     × (map (λ b. pair-agrees begins-with-1 (b ∷ []) 0 0) (1 ∷ 2 ∷ []) ≡ true ∷ false ∷ [])
     × (standing-dump (quarry-pointers []) (quarry-pointers (0 ∷ [])) ≡ quarry-pointers [])
@@ -153,7 +199,7 @@ copy-and-dump-examples :
     × (standing-dump (0 ∷ []) [] ≡ [])
     × (dump-stands (quarry-pointers [] ++ (0xFF ∷ [])) ≡ false)
 unfolding rules table
-copy-and-dump-examples = (refl, refl, refl, refl, refl, refl, refl, refl, refl, refl)
+copy-and-dump-examples = (refl, refl, refl, refl, refl, refl, refl, refl, refl, refl, refl, refl)
 
 -- ---- readers
 

@@ -9,12 +9,13 @@ use lib.Dec.{eqb, leb}
 use borrow.Author.Tests.{leb-true}
 use lib.ListN.{length}
 use Rattle.rules.specs.Bytes.{block, block-size, multiple}
-use Rattle.rules.specs.Answers.{given}
+use Rattle.rules.specs.Answers.{given, numbered}
 use Rattle.rules.specs.Numbers.{length-right, granule-right, address-right, addresses-right}
 use Rattle.rules.specs.declared.Setting.{Setting}
 use Rattle.rules.specs.Table.{cpb0-of, cpb1-of, table-stands}
 use Rattle.rules.specs.Pointers.{pointers-stand}
-use Rattle.rules.specs.Copies.{copy-read, table-read, pointers-read, view-through, view}
+use Rattle.rules.specs.Copies.{copy-read, no-table, table-read, pointers-read, view-through, view}
+use Rattle.rules.specs.declared.Refusal.{Refusal}
 use Rattle.rules.specs.declared.View.{View}
 use Rattle.rules.proofs.Lists.Tests.{and-true, unless-given, bind-given, given-inj}
 use Rattle.rules.proofs.Copies.CopyRead.{which-address, WhichAddress}
@@ -24,19 +25,20 @@ use Rattle.reading.specs.Inner.Followed.{Followed}
 
 -- ---- a copy that is read
 
-module _ (n : ℕ) (stands : List ℕ → Bool) (img : List ℕ) (a0 a1 a : ℕ) (h : copy-read n stands img a0 a1 ≡ given a) where
+module _ (why : Refusal) (stands : List ℕ → Bool) (img : List ℕ) (a0 a1 a : ℕ)
+    (h : copy-read why stands img a0 a1 ≡ given a) where
   copy-stands : stands (block img a) ≡ true
-  copy-stands = split (which-address n stands img a0 a1 a h)
+  copy-stands = split (which-address why stands img a0 a1 a h)
     where
-      split : WhichAddress n stands img a0 a1 a → stands (block img a) ≡ true
+      split : WhichAddress stands img a0 a1 a → stands (block img a) ≡ true
       split (inl (t, e)) = rw (← e) t
       split (inr (f, t, e)) = rw (← e) t
 
   -- what holds of both addresses holds of the one that is read
   of-either : (P : ℕ → Type 0) → P a0 → P a1 → P a
-  of-either P p0 p1 = split (which-address n stands img a0 a1 a h)
+  of-either P p0 p1 = split (which-address why stands img a0 a1 a h)
     where
-      split : WhichAddress n stands img a0 a1 a → P a
+      split : WhichAddress stands img a0 a1 a → P a
       split (inl (t, e)) = subst P e p0
       split (inr (f, t, e)) = subst P e p1
 
@@ -113,12 +115,12 @@ module _ (s : Setting) (img : List ℕ) (v : View) (k : Seen s img v) where
   pub table-read-stands : table-stands s (length img) (block img (v .table)) ≡ true
   unfolding table-read
   table-read-stands =
-      copy-stands 4 (table-stands s (length img)) img (s .spt0) (s .spt1) (v .table) (k .table-copy)
+      copy-stands (no-table s img) (table-stands s (length img)) img (s .spt0) (s .spt1) (v .table) (k .table-copy)
 
   pub pointers-read-stand : pointers-stand (block img (v .pointers)) ≡ true
   unfolding pointers-read
   pointers-read-stand =
-      copy-stands 5 pointers-stand img (cpb0-of (block img (v .table))) (cpb1-of (block img (v .table))) (v .pointers)
+      copy-stands (numbered 5) pointers-stand img (cpb0-of (block img (v .table))) (cpb1-of (block img (v .table))) (v .pointers)
       (k .pointer-copy)
 
   pub blocks-inside : FourBlocks (s .granule) (length img) (s .spt0) (s .spt1) (v .cpb0) (v .cpb1)
@@ -132,13 +134,13 @@ module _ (s : Setting) (img : List ℕ) (v : View) (k : Seen s img v) where
   table-followed =
       let (inside0, inside1) = told-inside s (length img) (k .placed) in
       followed s img (v .table) holds
-      (of-either 4 (table-stands s (length img)) img (s .spt0) (s .spt1) (v .table) (k .table-copy)
+      (of-either (no-table s img) (table-stands s (length img)) img (s .spt0) (s .spt1) (v .table) (k .table-copy)
       (λ (a : ℕ). a + s .granule ≤ length img) inside0 inside1)
       table-read-stands
 
   pub pointers-inside : v .pointers + block-size ≤ length img
   unfolding pointers-read
   pointers-inside =
-      of-either 5 pointers-stand img (cpb0-of (block img (v .table))) (cpb1-of (block img (v .table))) (v .pointers)
+      of-either (numbered 5) pointers-stand img (cpb0-of (block img (v .table))) (cpb1-of (block img (v .table))) (v .pointers)
       (k .pointer-copy) (λ (a : ℕ). a + block-size ≤ length img)
       (table-followed .cpb0-inside) (table-followed .cpb1-inside)

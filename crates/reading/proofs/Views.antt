@@ -1,6 +1,6 @@
 -- The view of a flash, one law for each exit of the code that works it out. Assumes nothing.
 use mathlib.Core.Path.{_≡_}
-use mathlib.Core.Bool.{true, false}
+use mathlib.Core.Bool.{true, false, _||_}
 use mathlib.Core.List.{List}
 use Prim.Native.Nat.{ℕ}
 use lib.ListN.{length}
@@ -8,9 +8,11 @@ use Rattle.rules.specs.Bytes.{block}
 use Rattle.rules.specs.Answers.{refused, given, numbered, unless, _>>=_}
 use Rattle.rules.specs.Numbers.{length-right, granule-right, addresses-right}
 use Rattle.rules.specs.declared.Setting.{Setting}
-use Rattle.rules.specs.Table.{cpb0-of, cpb1-of, table-stands}
+use Rattle.rules.specs.Table.{cpb0-of, cpb1-of, magic-right, table-stands, fault}
 use Rattle.rules.specs.Pointers.{pointers-stand}
-use Rattle.rules.specs.Copies.{copy-read, table-read, pointers-read, view-through, view}
+use Rattle.rules.specs.Copies.{copy-read, no-table, table-read, pointers-read, view-through, view}
+use Rattle.rules.specs.Readers.{table-faults}
+use Rattle.rules.specs.declared.Refusal.{Refusal}
 use Rattle.rules.specs.declared.View.{View}
 
 -- where things are by the table at an address, with a pointer copy
@@ -36,11 +38,11 @@ module _ (s : Setting) (img : List ℕ) (at : ℕ) where
   module _ (no0 : pointers-stand (block img (cpb0-of (block img at))) ≡ false) where
     pub through-cpb1 : pointers-stand (block img (cpb1-of (block img at))) ≡ true
         → view-through s img at ≡ given (view-at s img at (cpb1-of (block img at)))
-    unfolding view-through pointers-read copy-read _>>=_ unless
+    unfolding view-through pointers-read copy-read _>>=_
     through-cpb1 h = rw (no0, h)
 
     pub refused-5 : pointers-stand (block img (cpb1-of (block img at))) ≡ false → view-through s img at ≡ refused (numbered 5)
-    unfolding view-through pointers-read copy-read _>>=_ unless
+    unfolding view-through pointers-read copy-read _>>=_
     refused-5 h = rw (no0, h)
 
 -- ---- the refusals in their order
@@ -72,6 +74,53 @@ module _ (s : Setting) (img : List ℕ) where
           unfolding view unless table-read copy-read _>>=_
           through-spt1 h = rw (long, grained, placed, no0, h)
 
-          pub refused-4 : table-stands s (length img) (block img (s .spt1)) ≡ false → view s img ≡ refused (numbered 4)
+          pub refused-without : table-stands s (length img) (block img (s .spt1)) ≡ false
+              → view s img ≡ refused (no-table s img)
           unfolding view unless table-read copy-read _>>=_
-          refused-4 h = rw (long, grained, placed, no0, h)
+          refused-without h = rw (long, grained, placed, no0, h)
+
+-- ---- the faults of the two table copies
+
+module _ (s : Setting) (img : List ℕ) where
+  pub faults-refused-1 : length-right (length img) ≡ false → table-faults s img ≡ refused (numbered 1)
+  unfolding table-faults unless
+  faults-refused-1 h = rw h
+
+  module _ (long : length-right (length img) ≡ true) where
+    pub faults-refused-2 : granule-right (s .granule) ≡ false → table-faults s img ≡ refused (numbered 2)
+    unfolding table-faults unless
+    faults-refused-2 h = rw (long, h)
+
+    module _ (grained : granule-right (s .granule) ≡ true) where
+      pub faults-refused-3 : addresses-right s (length img) ≡ false → table-faults s img ≡ refused (numbered 3)
+      unfolding table-faults unless
+      faults-refused-3 h = rw (long, grained, h)
+
+      pub faults-told : addresses-right s (length img) ≡ true
+          → table-faults s img
+          ≡ given (record {
+            fault0 = fault s (length img) (block img (s .spt0));
+            fault1 = fault s (length img) (block img (s .spt1));
+          })
+      unfolding table-faults unless
+      faults-told h = rw (long, grained, h)
+
+  -- ---- the refusal where no copy stands: 51 where one of them begins with the magic, else 50
+
+  abbrev without : ℕ → Refusal
+  without n =
+      record {
+        number = n;
+        fault0 = fault s (length img) (block img (s .spt0));
+        fault1 = fault s (length img) (block img (s .spt1));
+      }
+
+  pub some-magic : magic-right (block img (s .spt0)) || magic-right (block img (s .spt1)) ≡ true
+      → no-table s img ≡ without 51
+  unfolding no-table
+  some-magic h = rw h
+
+  pub no-magic : magic-right (block img (s .spt0)) || magic-right (block img (s .spt1)) ≡ false
+      → no-table s img ≡ without 50
+  unfolding no-table
+  no-magic h = rw h

@@ -1,12 +1,34 @@
-// Which pointer copy is read by a table that stands: refusal 5.
+// Where no table copy stands: refusals 50 and 51. Which pointer copy is read by one that stands: refusal 5.
 use super::Viewed;
+use rules::NO_FAULT;
 use rules::Refusal;
 use rules::Setting;
 use rules::View;
 ghost use mathlib.Core.Path.{_≡_};
-ghost use Rattle.rules.specs.Copies.{view-through};
+ghost use Rattle.rules.specs.Copies.{no-table, view-through};
 ghost use Rattle.reading.specs.Answers.{viewed};
-ghost use Rattle.reading.specs.Inner.Followed.{Followed};
+ghost use Rattle.reading.specs.Inner.Followed.{BothInside, Followed};
+
+// Neither table copy stands: whether one of them has the magic, and what each breaks first.
+pub fn no_table(image: &[u8], setting: Setting) -> Refusal
+    requires { ⌜ BothInside setting (now image) ⌝ }
+    ensures { λ r. ⌜ r ≡ no-table setting (now (image .entry)) ⌝ }
+{
+    let fault0 = table::table_fault(image, setting.spt0, setting);
+    let fault1 = table::table_fault(image, setting.spt1, setting);
+    if table::magic_right(image, setting.spt0) | table::magic_right(image, setting.spt1) {
+        return Refusal {
+            number: 51,
+            fault0: fault0,
+            fault1: fault1,
+        };
+    }
+    Refusal {
+        number: 50,
+        fault0: fault0,
+        fault1: fault1,
+    }
+}
 
 // Where things are by the table at an address: CPB0 if it stands, else CPB1.
 pub fn view_through(image: &[u8], setting: Setting, at: usize) -> Viewed
@@ -37,5 +59,9 @@ pub fn view_through(image: &[u8], setting: Setting, at: usize) -> Viewed
             pointers: cpb1,
         });
     }
-    Viewed::Refused(Refusal { number: 5 })
+    Viewed::Refused(Refusal {
+        number: 5,
+        fault0: NO_FAULT,
+        fault1: NO_FAULT,
+    })
 }

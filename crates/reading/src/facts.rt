@@ -1,6 +1,7 @@
 // One slot by a table, of which the first n entries count, and refusal 7.
 use super::Known;
 use rules::Facts;
+use rules::NO_FAULT;
 use rules::Refusal;
 use rules::SlotNo;
 ghost use mathlib.Core.Path.{_≡_};
@@ -17,7 +18,11 @@ pub fn facts_in(t: &[u8], n: usize, slot: SlotNo) -> Known
         ≡ unless 7 (slot-there (rows n (now (t .entry))) (slot .0)) (given (facts (rows n (now (t .entry))) (slot .0))) ⌝ }
 {
     if !slot_there(t, n, slot) {
-        return Known::Refused(Refusal { number: 7 });
+        return Known::Refused(Refusal {
+            number: 7,
+            fault0: NO_FAULT,
+            fault1: NO_FAULT,
+        });
     }
     let e = slots::slot_row(t, n, slot);
     Known::Is(Facts {

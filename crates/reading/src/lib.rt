@@ -1,23 +1,31 @@
 // Reading a flash: where things are, the table read, the boot order, the slots. Nothing here stores into an image.
 mod numbers; // refusals 1 to 3
-mod copies; // refusals 4 and 5
+mod copies; // refusals 50, 51 and 5
 mod order; // the boot order by two blocks, and refusal 13
 mod facts; // one slot by a table, and refusal 7
 
 use rules::Facts;
+use rules::NO_FAULT;
 use rules::Refusal;
 use rules::Setting;
 use rules::SlotNo;
+use rules::TableFaults;
 use rules::View;
 ghost use mathlib.Core.Path.{_≡_};
 ghost use lib.ListN.{length};
 ghost use Rattle.rules.specs.Copies.{view};
-ghost use Rattle.rules.specs.Readers.{order-list, row-after, table-part, slot-count, slot-facts, slot-name};
-ghost use Rattle.reading.specs.Answers.{viewed, listed, count-of, counted, known};
+ghost use Rattle.rules.specs.Readers.{order-list, row-after, table-part, table-faults, slot-count, slot-facts, slot-name};
+ghost use Rattle.reading.specs.Answers.{viewed, faulted, listed, count-of, counted, known};
 
 // Where things are, or a refusal.
 pub enum Viewed {
     At(View),
+    Refused(Refusal),
+}
+
+// The first broken rule of each table copy, or a refusal.
+pub enum Faults {
+    Are(TableFaults),
     Refused(Refusal),
 }
 
@@ -39,19 +47,31 @@ pub enum Known {
     Refused(Refusal),
 }
 
-// Refusals 1 to 5, or where things are and which copies are read.
+// Refusals 1, 2, 3, 50 or 51, and 5, or where things are and which copies are read.
 pub fn view(image: &[u8], setting: Setting) -> Viewed
     ensures { λ r. ⌜ viewed r ≡ view setting (now (image .entry)) ⌝ }
 {
     let len = image.len();
     if !numbers::length_right(len) {
-        return Viewed::Refused(Refusal { number: 1 });
+        return Viewed::Refused(Refusal {
+            number: 1,
+            fault0: NO_FAULT,
+            fault1: NO_FAULT,
+        });
     }
     if !numbers::granule_right(setting.granule) {
-        return Viewed::Refused(Refusal { number: 2 });
+        return Viewed::Refused(Refusal {
+            number: 2,
+            fault0: NO_FAULT,
+            fault1: NO_FAULT,
+        });
     }
     if !numbers::addresses_right(setting, len) {
-        return Viewed::Refused(Refusal { number: 3 });
+        return Viewed::Refused(Refusal {
+            number: 3,
+            fault0: NO_FAULT,
+            fault1: NO_FAULT,
+        });
     }
     if table::table_stands(image, setting.spt0, setting) {
         return copies::view_through(image, setting, setting.spt0);
@@ -59,7 +79,42 @@ pub fn view(image: &[u8], setting: Setting) -> Viewed
     if table::table_stands(image, setting.spt1, setting) {
         return copies::view_through(image, setting, setting.spt1);
     }
-    Viewed::Refused(Refusal { number: 4 })
+    Viewed::Refused(copies::no_table(image, setting))
+}
+
+// The first broken rule of each table copy, and the entry that breaks it: refused 1 to 3 only. A copy that stands has
+// none.
+pub fn table_faults(image: &[u8], setting: Setting) -> Faults
+    ensures { λ r. ⌜ faulted r ≡ table-faults setting (now (image .entry)) ⌝ }
+{
+    let len = image.len();
+    if !numbers::length_right(len) {
+        return Faults::Refused(Refusal {
+            number: 1,
+            fault0: NO_FAULT,
+            fault1: NO_FAULT,
+        });
+    }
+    if !numbers::granule_right(setting.granule) {
+        return Faults::Refused(Refusal {
+            number: 2,
+            fault0: NO_FAULT,
+            fault1: NO_FAULT,
+        });
+    }
+    if !numbers::addresses_right(setting, len) {
+        return Faults::Refused(Refusal {
+            number: 3,
+            fault0: NO_FAULT,
+            fault1: NO_FAULT,
+        });
+    }
+    let fault0 = table::table_fault(image, setting.spt0, setting);
+    let fault1 = table::table_fault(image, setting.spt1, setting);
+    Faults::Are(TableFaults {
+        fault0: fault0,
+        fault1: fault1,
+    })
 }
 
 // The 4,096 bytes of the table copy read, as a part of the image; an empty part when refused.

@@ -3,6 +3,7 @@ use super::bounds::least;
 use libc::STDOUT_FILENO;
 use rules::EntryNo;
 use rules::Facts;
+use rules::Fault;
 use rules::Refusal;
 use rules::Setting;
 use rules::SlotNo;
@@ -35,9 +36,27 @@ pub fn print_number(word: &[u8], number: u64) {
     write_line(&mut out, after);
 }
 
-// The number of a refusal.
+// The number of a refusal, and where no table copy stands the rule and the entry told for SPT0 and for SPT1.
 pub fn print_refused(why: Refusal) {
+    if (why.number == 50) | (why.number == 51) {
+        print_faults(why);
+        return;
+    }
     print_number(b"refused", why.number as u64);
+}
+
+fn print_faults(why: Refusal) {
+    let mut out = [0u8; 128];
+    let mut end = text::put_bytes(&mut out, 0, b"refused");
+    end = put_number(&mut out, end, why.number as u64);
+    end = put_fault(&mut out, end, why.fault0);
+    end = put_fault(&mut out, end, why.fault1);
+    write_line(&mut out, end);
+}
+
+fn put_fault(out: &mut [u8], at: usize, fault: Fault) -> usize {
+    let end = put_number(out, at, fault.rule as u64);
+    put_number(out, end, row_of(fault.entry))
 }
 
 // Slot numbers in their order.

@@ -4,3 +4,5 @@ pub mod PutName
 pub mod Renaming
 pub mod TableJobs
 pub mod RenameJob
+pub mod Faults
+pub mod WhichEntry

@@ -1,30 +1,41 @@
--- "Which copy is read": refusals 1 to 5, the view of a flash, when the pairs agree, two dumps. Assumes nothing.
-use mathlib.Core.Bool.{Bool, false, cond, _&&_}
+-- "Which copy is read": refusals 1 to 3, 50, 51 and 5, the view of a flash, when the pairs agree, two dumps. Document
+-- 02's No. 8 puts 50 and 51 in the place of 4. Assumes nothing.
+use mathlib.Core.Bool.{Bool, false, cond, _&&_, _||_}
 use mathlib.Core.List.{List, []}
 use Prim.Native.Nat.{ℕ}
 use lib.Dec.{eqb}
 use lib.ListN.{length}
 use Rattle.rules.specs.Lists.{same}
 use Rattle.rules.specs.Bytes.{block, block-size}
-use Rattle.rules.specs.Answers.{Answer, refused, given, unless, _>>=_}
+use Rattle.rules.specs.Answers.{Answer, refused, given, numbered, unless, _>>=_}
 use Rattle.rules.specs.Numbers.{length-right, granule-right, addresses-right}
 use Rattle.rules.specs.declared.Setting.{Setting}
-use Rattle.rules.specs.Table.{table-stands, starts, cpb0-of, cpb1-of}
+use Rattle.rules.specs.declared.Refusal.{Refusal}
+use Rattle.rules.specs.Table.{magic-right, table-stands, fault, starts, cpb0-of, cpb1-of}
 use Rattle.rules.specs.Pointers.{pointers-stand, places, order}
 use Rattle.rules.specs.declared.View.{View}
 
--- the address of the first copy if that stands, else of the second, else refused with the number n
-unfoldable pub copy-read : ℕ → (List ℕ → Bool) → List ℕ → ℕ → ℕ → Answer ℕ
-copy-read n stands img a0 a1 =
-    cond (stands (block img a0)) (given a0) (unless n (stands (block img a1)) (given a1))
+-- the address of the first copy if that stands, else of the second, else that refusal
+unfoldable pub copy-read : Refusal → (List ℕ → Bool) → List ℕ → ℕ → ℕ → Answer ℕ
+copy-read why stands img a0 a1 =
+    cond (stands (block img a0)) (given a0) (cond (stands (block img a1)) (given a1) (refused why))
+
+-- "50 (neither magic right) and 51 (otherwise)", with the faults of SPT0 and SPT1
+unfoldable pub no-table : Setting → List ℕ → Refusal
+no-table s img =
+    record {
+      number = cond (magic-right (block img (s .spt0)) || magic-right (block img (s .spt1))) 51 50;
+      fault0 = fault s (length img) (block img (s .spt0));
+      fault1 = fault s (length img) (block img (s .spt1));
+    }
 
 -- "SPT0 if it stands, else SPT1"
 unfoldable pub table-read : Setting → List ℕ → Answer ℕ
-table-read s img = copy-read 4 (table-stands s (length img)) img (s .spt0) (s .spt1)
+table-read s img = copy-read (no-table s img) (table-stands s (length img)) img (s .spt0) (s .spt1)
 
 -- "From that table CPB0 if it stands, else CPB1"
 unfoldable pub pointers-read : List ℕ → List ℕ → Answer ℕ
-pointers-read img t = copy-read 5 pointers-stand img (cpb0-of t) (cpb1-of t)
+pointers-read img t = copy-read (numbered 5) pointers-stand img (cpb0-of t) (cpb1-of t)
 
 -- where things are, by the table at an address
 unfoldable pub view-through : Setting → List ℕ → ℕ → Answer View
@@ -38,7 +49,7 @@ view-through s img at =
       pointers = p;
     })
 
--- refusals 1 to 5 in their order, or where things are and which copies are read
+-- refusals 1, 2, 3, 50 or 51, and 5 in their order, or where things are and which copies are read
 unfoldable pub view : Setting → List ℕ → Answer View
 view s img =
     unless 1 (length-right (length img))

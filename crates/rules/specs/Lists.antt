@@ -1,7 +1,7 @@
 -- Tests on lists, and the few list functions that the rules are told with. Assumes nothing.
 use mathlib.Core.Bool.{Bool, true, false, cond, _&&_, _||_}
 use mathlib.Core.List.{List, [], _∷_}
-use Prim.Native.Nat.{ℕ}
+use Prim.Native.Nat.{ℕ, suc}
 use lib.Dec.{eqb}
 
 -- two lists of numbers are equal
@@ -33,6 +33,16 @@ module _ {A : Type 0} where
   unfoldable pub pairwise : (A → A → Bool) → List A → Bool
   pairwise f [] = true
   pairwise f (x ∷ xs) = all (f x) xs && pairwise f xs
+
+  -- the number of the first element that does not pass; the length where all pass
+  unfoldable pub first-failing : (A → Bool) → List A → ℕ
+  first-failing f [] = 0
+  first-failing f (x ∷ xs) = cond (f x) (suc (first-failing f xs)) 0
+
+  -- the number of the first element that does not pass with an earlier one, counted after those that are earlier already
+  unfoldable pub first-clash : (A → A → Bool) → List A → List A → ℕ
+  first-clash f earlier [] = 0
+  first-clash f earlier (x ∷ xs) = cond (all (λ y. f y x) earlier) (suc (first-clash f (x ∷ earlier) xs)) 0
 
   -- the elements that pass, in order
   unfoldable pub keep : (A → Bool) → List A → List A

@@ -1,4 +1,5 @@
--- What the readers answer: the order list, the slots' facts, the table read. Assumes nothing.
+-- What the readers answer: the order list, the table read, the faults of the table copies, the slots' facts. Assumes
+-- nothing.
 use mathlib.Core.Bool.{Bool, cond}
 use mathlib.Core.List.{List, [], _∷_, _++_}
 use Prim.Native.Nat.{ℕ, zero, suc}
@@ -6,8 +7,10 @@ use lib.Dec.{leb, ltb}
 use lib.ListN.{length, getD, drop}
 use Rattle.rules.specs.Bytes.{block}
 use Rattle.rules.specs.Answers.{Answer, refused, given, unless, _>>=_}
+use Rattle.rules.specs.Numbers.{length-right, granule-right, addresses-right}
 use Rattle.rules.specs.declared.Setting.{Setting}
-use Rattle.rules.specs.Table.{Entry, entries, name, slots, is-slot, no-entry}
+use Rattle.rules.specs.declared.TableFaults.{TableFaults}
+use Rattle.rules.specs.Table.{Entry, entries, fault, name, slots, is-slot, no-entry}
 use Rattle.rules.specs.Copies.{view, boot-order}
 use Rattle.rules.specs.declared.View.{View}
 use Rattle.rules.specs.declared.Facts.{Facts}
@@ -18,7 +21,7 @@ use Rattle.rules.specs.declared.Facts.{Facts}
 unfoldable pub order-in : List ℕ → ℕ → Answer (List ℕ)
 order-in o room = unless 13 (leb (length o) room) (given o)
 
--- refusals 1 to 5 and 13, or the boot order
+-- the refusals of a view and 13, or the boot order
 unfoldable pub order-list : Setting → List ℕ → ℕ → Answer (List ℕ)
 order-list s img room = view s img >>= λ v. order-in (boot-order img v) room
 
@@ -36,6 +39,19 @@ table-of img (given v) = block img (v .table)
 -- the 4,096 bytes of the table copy read; none when refused
 unfoldable pub table-part : Setting → List ℕ → List ℕ
 table-part s img = table-of img (view s img)
+
+-- ---- the faults of the two table copies (document 02, No. 8)
+
+-- refusals 1 to 3, or the first broken rule of SPT0 and of SPT1
+unfoldable pub table-faults : Setting → List ℕ → Answer TableFaults
+table-faults s img =
+    unless 1 (length-right (length img))
+    (unless 2 (granule-right (s .granule))
+    (unless 3 (addresses-right s (length img))
+    (given (record {
+      fault0 = fault s (length img) (block img (s .spt0));
+      fault1 = fault s (length img) (block img (s .spt1));
+    }))))
 
 -- ---- the slots
 
@@ -65,7 +81,7 @@ facts es k = record {
 unfoldable pub slot-there : List Entry → ℕ → Bool
 slot-there es k = ltb k (length (slots es))
 
--- refusals 1 to 5 and 7, or what is known of a slot beside its name
+-- the refusals of a view and 7, or what is known of a slot beside its name
 unfoldable pub slot-facts : Setting → List ℕ → ℕ → Answer Facts
 slot-facts s img k = view s img >>= λ v.
     (let es = entries (block img (v .table)) in unless 7 (slot-there es k) (given (facts es k)))

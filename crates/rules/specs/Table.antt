@@ -1,13 +1,16 @@
--- "Sub-partition table, 4,096 bytes": its entries, the eleven rules of a copy that stands, the application slots.
+-- "Sub-partition table, 4,096 bytes": its entries, the eleven rules of a copy that stands, the first of them that a copy
+-- breaks, the application slots.
 -- The layout is that of source document 000, section 3.2. Assumes nothing.
-use mathlib.Core.Bool.{Bool, not, _&&_, _||_}
+use mathlib.Core.Bool.{Bool, true, false, not, _&&_, _||_}
 use mathlib.Core.List.{List, [], _∷_, map}
 use Prim.Native.Nat.{ℕ, zero, suc, _+_}
 use lib.Dec.{eqb, leb, ltb}
 use lib.ListN.{take, drop, length}
-use Rattle.rules.specs.Lists.{same, all, any, pairwise, keep, first}
+use Rattle.rules.specs.Lists.{same, all, any, pairwise, first-failing, first-clash, keep, first}
 use Rattle.rules.specs.Bytes.{field, up-to-zero, multiple, block-size}
+use Rattle.rules.specs.Answers.{no-entry-number, broken, no-fault}
 use Rattle.rules.specs.declared.Setting.{Setting}
+use Rattle.rules.specs.declared.Fault.{Fault}
 
 -- ---- entries
 
@@ -99,9 +102,12 @@ cpb1-of t = named cpb1-name (entries t) .start
 abbrev pub table-magic : ℕ
 table-magic = 0x57713427
 
+unfoldable pub magic-right : List ℕ → Bool
+magic-right t = eqb (field 0 4 t) table-magic
+
 -- 1: magic and version are right
 unfoldable pub header-right : List ℕ → Bool
-header-right t = eqb (field 0 4 t) table-magic && eqb (field 4 4 t) 0
+header-right t = magic-right t && eqb (field 4 4 t) 0
 
 -- 2: there are 1 to 127 entries
 unfoldable pub count-right : List ℕ → Bool
@@ -143,10 +149,13 @@ tables-as-told s es = eqb (named spt0-name es .start) (s .spt0) && eqb (named sp
 unfoldable pub on-granules : ℕ → Entry → Bool
 on-granules g e = multiple g (e .start) && leb g (e .size)
 
+-- SPT0, SPT1, CPB0 and CPB1
+abbrev pub block-names : List (List ℕ)
+block-names = spt0-name ∷ spt1-name ∷ cpb0-name ∷ cpb1-name ∷ []
+
 -- 11: the four blocks are on granules
 unfoldable pub blocks-on-granules : Setting → List Entry → Bool
-blocks-on-granules s es =
-    all (λ n. on-granules (s .granule) (named n es)) (spt0-name ∷ spt1-name ∷ cpb0-name ∷ cpb1-name ∷ [])
+blocks-on-granules s es = all (λ n. on-granules (s .granule) (named n es)) block-names
 
 -- rules 3 to 11, over the counted entries
 unfoldable pub entries-stand : Setting → ℕ → List Entry → Bool
@@ -164,6 +173,52 @@ entries-stand s len es =
 -- "A table copy stands if": for an image of this length (document 01's term)
 unfoldable pub table-stands : Setting → ℕ → List ℕ → Bool
 table-stands s len t = header-right t && count-right t && entries-stand s len (entries t)
+
+-- ---- the first broken rule, and the entry that breaks it (document 02, No. 8)
+
+-- passes, if it has that name
+unfoldable pub if-named : List ℕ → (Entry → Bool) → Entry → Bool
+if-named n right e = not (has-name n e) || right e
+
+unfoldable pub starts-at : ℕ → Entry → Bool
+starts-at a e = eqb (e .start) a
+
+-- what rules 9, 10 and 11 ask of one entry
+unfoldable pub boot-info-right : Entry → Bool
+boot-info-right e = if-named boot-info (starts-at 0) e
+
+unfoldable pub table-as-told : Setting → Entry → Bool
+table-as-told s e = if-named spt0-name (starts-at (s .spt0)) e && if-named spt1-name (starts-at (s .spt1)) e
+
+unfoldable pub block-on-granules : Setting → Entry → Bool
+block-on-granules s e = all (λ n. if-named n (on-granules (s .granule)) e) block-names
+
+-- rule n broken at an entry, unless it is kept: then what the rules after it say
+unfoldable pub broken-unless : ℕ → ℕ → Bool → Fault → Fault
+broken-unless n e true later = later
+broken-unless n e false later = broken n e
+
+-- rules 3 to 11, over the counted entries: "the lowest entry number that breaks it", of names and overlaps "the lowest
+-- entry that clashes with an earlier one"
+unfoldable pub entries-fault : Setting → ℕ → List Entry → Fault
+entries-fault s len es =
+    broken-unless 3 (first-failing name-right es) (all name-right es)
+    (broken-unless 4 (first-clash names-differ [] es) (pairwise names-differ es)
+    (broken-unless 5 (first-failing range-aligned es) (all range-aligned es)
+    (broken-unless 6 (first-failing (range-inside len) es) (all (range-inside len) es)
+    (broken-unless 7 (first-clash ranges-apart [] es) (pairwise ranges-apart es)
+    (broken-unless 8 no-entry-number (six-named es)
+    (broken-unless 9 (first-failing boot-info-right es) (boot-info-at-0 es)
+    (broken-unless 10 (first-failing (table-as-told s) es) (tables-as-told s es)
+    (broken-unless 11 (first-failing (block-on-granules s) es) (blocks-on-granules s es)
+    no-fault))))))))
+
+-- "the first broken rule" of a table copy; `no-fault` exactly if it stands
+unfoldable pub fault : Setting → ℕ → List ℕ → Fault
+fault s len t =
+    broken-unless 1 no-entry-number (header-right t)
+    (broken-unless 2 no-entry-number (count-right t)
+    (entries-fault s len (entries t)))
 
 -- ---- application slots
 

@@ -16,9 +16,30 @@ pub struct Setting {
     pub spt1: usize,
 }
 
-// A refusal, by its number in document 01's table.
+// The first rule that a table copy breaks, 1 to 11 in the order of document 01's sentence, and the entry that breaks it.
+// Rule 0 and entry 127 where there is none.
+pub struct Fault {
+    pub rule: u8,
+    pub entry: EntryNo,
+}
+
+// A table copy that stands, and a refusal that is not about the table, have none.
+pub const NO_FAULT: Fault = Fault {
+    rule: 0,
+    entry: EntryNo(127),
+};
+
+// A refusal: its number, and for numbers 50 and 51 the faults of SPT0 and of SPT1.
 pub struct Refusal {
     pub number: u8,
+    pub fault0: Fault,
+    pub fault1: Fault,
+}
+
+// The faults of SPT0 and of SPT1.
+pub struct TableFaults {
+    pub fault0: Fault,
+    pub fault1: Fault,
 }
 
 // What one pointer place holds. Document 01's "dead" is one of spent, part-written and stray.

@@ -1,4 +1,5 @@
 pub mod Ascending
+pub mod FaultFound
 pub mod Padding
 pub mod SixFound
 pub mod Standing

@@ -49,7 +49,7 @@ module _ (n : ℕ) (six : SixEntries) where
       }
 
 module _ (n : ℕ) (t : List ℕ) {six : SixEntries} (found : Found (rows n t) six) where
-  six-named-below : six-named (rows n t) ≡ below n six
+  pub six-named-below : six-named (rows n t) ≡ below n six
   unfolding six-named six-names below
   six-named-below =
       rw (
@@ -62,29 +62,49 @@ module _ (n : ℕ) (t : List ℕ) {six : SixEntries} (found : Found (rows n t) s
         any-named n t cpb1-name (found .is-pointers1),
       )
 
-  module _ (s : Setting) where
-    pub not-all-named : below n six ≡ false → six-right s (rows n t) ≡ false
-    unfolding six-right
-    not-all-named h = rw (six-named-below, h)
+  pub not-all-named : (s : Setting) → below n six ≡ false → six-right s (rows n t) ≡ false
+  unfolding six-right
+  not-all-named s h = rw (six-named-below, h)
 
-    pub rules-by-number : below n six ≡ true
-        → six-right s (rows n t)
+  -- where all six are there, each is the entry of its number
+  module _ (s : Setting) (all-there : below n six ≡ true) where
+    abbrev b : Below n six
+    b = all-below n six all-there
+
+    pub rule-9-by-number : boot-info-at-0 (rows n t) ≡ eqb (entry-at t (six .boot .0) .start) 0
+    unfolding boot-info-at-0
+    rule-9-by-number = rw (named-found n t boot-info (found .is-boot) (b .boot-below))
+
+    pub rule-10-by-number : tables-as-told s (rows n t)
+        ≡ eqb (entry-at t (six .table0 .0) .start) (s .spt0) && eqb (entry-at t (six .table1 .0) .start) (s .spt1)
+    unfolding tables-as-told
+    rule-10-by-number =
+        rw (
+          named-found n t spt0-name (found .is-table0) (b .table0-below),
+          named-found n t spt1-name (found .is-table1) (b .table1-below),
+        )
+
+    pub rule-11-by-number : blocks-on-granules s (rows n t)
+        ≡ on-granules (s .granule) (entry-at t (six .table0 .0))
+        && on-granules (s .granule) (entry-at t (six .table1 .0))
+        && on-granules (s .granule) (entry-at t (six .pointers0 .0))
+        && on-granules (s .granule) (entry-at t (six .pointers1 .0))
+    unfolding blocks-on-granules
+    rule-11-by-number =
+        rw (
+          all-four,
+          named-found n t spt0-name (found .is-table0) (b .table0-below),
+          named-found n t spt1-name (found .is-table1) (b .table1-below),
+          named-found n t cpb0-name (found .is-pointers0) (b .pointers0-below),
+          named-found n t cpb1-name (found .is-pointers1) (b .pointers1-below),
+        )
+
+    pub rules-by-number : six-right s (rows n t)
         ≡ eqb (entry-at t (six .boot .0) .start) 0
         && (eqb (entry-at t (six .table0 .0) .start) (s .spt0) && eqb (entry-at t (six .table1 .0) .start) (s .spt1))
         && (on-granules (s .granule) (entry-at t (six .table0 .0))
         && on-granules (s .granule) (entry-at t (six .table1 .0))
         && on-granules (s .granule) (entry-at t (six .pointers0 .0))
         && on-granules (s .granule) (entry-at t (six .pointers1 .0)))
-    unfolding six-right boot-info-at-0 tables-as-told blocks-on-granules
-    rules-by-number h =
-        let b = all-below n six h in
-        rw (
-          six-named-below,
-          h,
-          all-four,
-          named-found n t boot-info (found .is-boot) (b .boot-below),
-          named-found n t spt0-name (found .is-table0) (b .table0-below),
-          named-found n t spt1-name (found .is-table1) (b .table1-below),
-          named-found n t cpb0-name (found .is-pointers0) (b .pointers0-below),
-          named-found n t cpb1-name (found .is-pointers1) (b .pointers1-below),
-        )
+    unfolding six-right
+    rules-by-number = rw (six-named-below, all-there, rule-9-by-number, rule-10-by-number, rule-11-by-number)

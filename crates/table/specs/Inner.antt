@@ -1,4 +1,5 @@
 pub mod Ascending
+pub mod Faults
 pub mod Padding
 pub mod Rules
 pub mod Six

@@ -25,7 +25,7 @@ fn entry_keeps(rule: Rule, table: &[u8], e: EntryNo) -> bool
     }
 }
 
-fn pair_keeps(rule: PairRule, table: &[u8], d: EntryNo, e: EntryNo) -> bool
+pub fn pair_keeps(rule: PairRule, table: &[u8], d: EntryNo, e: EntryNo) -> bool
     requires { ⌜ (length (now table) ≡ block-size) × ((d .0 < most-entries) × (e .0 < most-entries)) ⌝ }
     ensures { λ r. ⌜ r
         ≡ both-keep rule (entry-at (now (table .entry)) (d .0)) (entry-at (now (table .entry)) (e .0)) ⌝ }

@@ -1,15 +1,18 @@
-// One copy of the sub-partition table: the eleven rules by which it stands, a function for each.
+// One copy of the sub-partition table: the eleven rules by which it stands, a function for each, and the first of them
+// that it breaks.
 use rules::EntryNo;
+use rules::Fault;
 use rules::Setting;
 ghost use mathlib.Core.Path.{_≡_};
 ghost use Prim.Native.Nat.{_+_, _≤_, _<_};
 ghost use lib.Dec.{leb};
 ghost use lib.ListN.{length};
 ghost use Rattle.rules.specs.Bytes.{block, block-size};
-ghost use Rattle.rules.specs.Table.{rows, header-right, count-right, entries-stand, table-stands};
+ghost use Rattle.rules.specs.Table.{rows, magic-right, header-right, count-right, entries-stand, table-stands, fault};
 ghost use Rattle.walks.specs.Entries.{HasEntries};
 
 mod each;
+mod faults;
 mod naming;
 mod ranges;
 mod six;
@@ -35,6 +38,16 @@ pub enum PairRule {
     RangesApart,
 }
 
+// What a rule asks of one entry: 3, 5 and 6 of the eleven, and of an entry with one of the six names 9, 10 and 11.
+pub enum EntryRule {
+    Named,
+    Aligned,
+    Inside,
+    BootInfo,
+    Told,
+    OnGranules,
+}
+
 // The entry numbers of BOOT_INFO, FACTORY_IMAGE, SPT0, SPT1, CPB0 and CPB1.
 pub struct SixEntries {
     pub boot: EntryNo,
@@ -58,6 +71,38 @@ pub fn table_stands(image: &[u8], at: usize, setting: Setting) -> bool
     let n = entries::entry_count(table);
     let len = image.len() as u64;
     entries_stand(table, n, len, setting)
+}
+
+// The first broken rule of the copy at an address of the image, and the entry that breaks it.
+pub fn table_fault(image: &[u8], at: usize, setting: Setting) -> Fault
+    requires { ⌜ (at + block-size ≤ length (now image)) × (0 < setting .granule) ⌝ }
+    ensures { λ r. ⌜ r ≡ fault setting (length (now (image .entry))) (block (now (image .entry)) at) ⌝ }
+{
+    let table = fields::block_at(image, at);
+    if !header_is_right(table) {
+        return Fault {
+            rule: 1,
+            entry: EntryNo(faults::NO_ENTRY),
+        };
+    }
+    if !count_is_right(table) {
+        return Fault {
+            rule: 2,
+            entry: EntryNo(faults::NO_ENTRY),
+        };
+    }
+    let n = entries::entry_count(table);
+    let len = image.len() as u64;
+    faults::entries_fault(table, n, len, setting)
+}
+
+// The copy at an address of the image begins with the magic.
+pub fn magic_right(image: &[u8], at: usize) -> bool
+    requires { ⌜ at + block-size ≤ length (now image) ⌝ }
+    ensures { λ r. ⌜ r ≡ magic-right (block (now (image .entry)) at) ⌝ }
+{
+    let table = fields::block_at(image, at);
+    fields::le32(table, 0) == MAGIC
 }
 
 // Rules 3 to 11, over the first n entries. Here and below tests are joined by `&` and `|`, which take both sides:

@@ -4,11 +4,12 @@ use rules::EntryNo;
 use rules::Setting;
 ghost use mathlib.Core.Path.{_≡_};
 ghost use mathlib.Core.Bool.{_&&_};
-ghost use Prim.Native.Nat.{_<_};
+ghost use Prim.Native.Nat.{ℕ, _<_};
 ghost use lib.Dec.{eqb};
 ghost use lib.ListN.{length};
-ghost use Rattle.rules.specs.Bytes.{block-size};
-ghost use Rattle.rules.specs.Table.{rows, on-granules};
+ghost use Rattle.rules.specs.Bytes.{block-size, up-to-zero};
+ghost use Rattle.rules.specs.Numbers.{setting};
+ghost use Rattle.rules.specs.Table.{rows, on-granules, if-named, starts-at, table-as-told, block-on-granules};
 ghost use Rattle.walks.specs.Entries.{entry-at, most-entries, HasEntries};
 ghost use Rattle.table.specs.Inner.Six.{Found, Below, below, six-right};
 
@@ -26,7 +27,7 @@ pub fn six_keep(table: &[u8], n: usize, setting: Setting) -> bool
         & blocks_are_on_granules(table, six, setting.granule as u64)
 }
 
-fn find_six(table: &[u8], n: usize) -> SixEntries
+pub fn find_six(table: &[u8], n: usize) -> SixEntries
     requires { ⌜ HasEntries (now table) n ⌝ }
     ensures { λ r. ⌜ Found (rows n (now (table .entry))) r ⌝ }
 {
@@ -47,7 +48,7 @@ fn find_six(table: &[u8], n: usize) -> SixEntries
 }
 
 // Rule 8: all six are among the first n entries.
-fn six_are_named(six: SixEntries, n: usize) -> bool
+pub fn six_are_named(six: SixEntries, n: usize) -> bool
     ensures { λ r. ⌜ r ≡ below n six ⌝ }
 {
     (six.boot.0 < n)
@@ -59,7 +60,7 @@ fn six_are_named(six: SixEntries, n: usize) -> bool
 }
 
 // Rule 9: BOOT_INFO starts at 0.
-fn boot_info_is_at_0(table: &[u8], six: SixEntries) -> bool
+pub fn boot_info_is_at_0(table: &[u8], six: SixEntries) -> bool
     requires { ⌜ (length (now table) ≡ block-size) × Below most-entries six ⌝ }
     ensures { λ r. ⌜ r ≡ eqb (entry-at (now (table .entry)) (six .boot .0) .start) 0 ⌝ }
 {
@@ -67,7 +68,7 @@ fn boot_info_is_at_0(table: &[u8], six: SixEntries) -> bool
 }
 
 // Rule 10: SPT0 and SPT1 start where the caller said.
-fn tables_are_as_told(table: &[u8], six: SixEntries, spt0: u64, spt1: u64) -> bool
+pub fn tables_are_as_told(table: &[u8], six: SixEntries, spt0: u64, spt1: u64) -> bool
     requires { ⌜ (length (now table) ≡ block-size) × Below most-entries six ⌝ }
     ensures { λ r. ⌜ r
         ≡ eqb (entry-at (now (table .entry)) (six .table0 .0) .start) spt0
@@ -78,7 +79,7 @@ fn tables_are_as_told(table: &[u8], six: SixEntries, spt0: u64, spt1: u64) -> bo
 }
 
 // Rule 11: the four blocks are on granules.
-fn blocks_are_on_granules(table: &[u8], six: SixEntries, granule: u64) -> bool
+pub fn blocks_are_on_granules(table: &[u8], six: SixEntries, granule: u64) -> bool
     requires { ⌜ ((length (now table) ≡ block-size) × Below most-entries six) × (0 < granule) ⌝ }
     ensures { λ r. ⌜ r
         ≡ on-granules granule (entry-at (now (table .entry)) (six .table0 .0))
@@ -98,4 +99,33 @@ fn is_on_granules(table: &[u8], e: EntryNo, granule: u64) -> bool
     ensures { λ r. ⌜ r ≡ on-granules granule (entry-at (now (table .entry)) (e .0)) ⌝ }
 {
     (entries::entry_start(table, e) % granule == 0) & (granule <= entries::entry_size(table, e))
+}
+
+// What rules 9 and 10 ask of one entry: it starts at an address, if it has that name.
+pub fn starts_if_named(table: &[u8], e: EntryNo, wanted: &[u8], at: u64) -> bool
+    requires { ⌜ (length (now table) ≡ block-size) × (e .0 < most-entries) ⌝ }
+    ensures { λ r. ⌜ r
+        ≡ if-named (up-to-zero (now (wanted .entry))) (starts-at at) (entry-at (now (table .entry)) (e .0)) ⌝ }
+{
+    !entries::has_name(table, e, wanted) | (entries::entry_start(table, e) == at)
+}
+
+pub fn table_is_as_told(table: &[u8], e: EntryNo, spt0: u64, spt1: u64) -> bool
+    requires { ⌜ (length (now table) ≡ block-size) × (e .0 < most-entries) ⌝ }
+    ensures { λ r. ⌜ ((g : ℕ) → r ≡ table-as-told (setting g spt0 spt1) (entry-at (now (table .entry)) (e .0))) ⌝ }
+{
+    starts_if_named(table, e, b"SPT0", spt0) & starts_if_named(table, e, b"SPT1", spt1)
+}
+
+// What rule 11 asks of one entry.
+pub fn block_is_on_granules(table: &[u8], e: EntryNo, granule: u64) -> bool
+    requires { ⌜ ((length (now table) ≡ block-size) × (e .0 < most-entries)) × (0 < granule) ⌝ }
+    ensures { λ r. ⌜ ((a b : ℕ) → r
+        ≡ block-on-granules (setting granule a b) (entry-at (now (table .entry)) (e .0))) ⌝ }
+{
+    let fits = is_on_granules(table, e, granule);
+    (!entries::has_name(table, e, b"SPT0") | fits)
+        & (!entries::has_name(table, e, b"SPT1") | fits)
+        & (!entries::has_name(table, e, b"CPB0") | fits)
+        & (!entries::has_name(table, e, b"CPB1") | fits)
 }

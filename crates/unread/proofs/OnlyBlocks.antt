@@ -3,7 +3,7 @@
 -- Take two images of the same length whose tables and pointer blocks hold the same 4,096 bytes each, and which differ
 -- anywhere else in any way. Then every reader answers the same on both (the view, the table read, the boot order, the
 -- number of slots, what is known of a slot, its name, the book's reading), the pairs agree on both or on neither, and
--- every command but enable is refused with the same number or starts with the same listed steps; so is enable, where the
+-- every command but enable is refused with the same number and faults or starts with the same listed steps; so is enable, where the
 -- first 4,096 bytes of the slot that it is told are the same too.
 -- So a dump that lacks what lies before the tables may be laid at its address with any bytes below, as long as no slot down
 -- there is enabled. Assumes nothing.
@@ -14,11 +14,11 @@ use mathlib.Core.List.{List}
 use Prim.Native.Nat.{ℕ}
 use lib.ListN.{length, getD}
 use Rattle.rules.specs.Bytes.{block}
-use Rattle.rules.specs.Answers.{Answer, refused, given, unless, _>>=_}
+use Rattle.rules.specs.Answers.{Answer, refused, given, numbered, unless, _>>=_}
 use Rattle.rules.specs.declared.Setting.{Setting}
 use Rattle.rules.specs.Table.{entries, table-stands, starts, cpb0-of, cpb1-of}
 use Rattle.rules.specs.Pointers.{pointers-stand}
-use Rattle.rules.specs.Copies.{table-read, pointers-read, view-through, view, boot-order, pair-agrees, tables-agree, pointers-agree, agree-by, agreed, pairs-agree}
+use Rattle.rules.specs.Copies.{table-read, pointers-read, view-through, view, boot-order, pair-agrees, tables-agree, pointers-agree, agree-by, agreed, pairs-agree, no-table}
 use Rattle.rules.specs.Readers.{slot-there, order-list, table-of, table-part, slot-count, slot-facts, slot-name}
 use Rattle.rules.specs.Commands.{Command, enable, disable, rename, repair, repair-pair, repair-steps, slot-empty, enable-steps, job, start}
 use Rattle.rules.specs.Book.{read-by, reading}
@@ -38,19 +38,23 @@ bind-same (given x) f g h = h x refl
 module _ (s : Setting) (img img′ : List ℕ) (same : SameBlocks s img img′) where
   -- ---- the view
 
+  no-table-same : no-table s img ≡ no-table s img′
+  unfolding no-table
+  no-table-same = rw (same .same-length, same .spt0, same .spt1)
+
   table-read-same : table-read s img ≡ table-read s img′
   unfolding table-read
   table-read-same =
-      copy-read-same 4 (table-stands s (length img)) img′ img (s .spt0) (s .spt1) (same .spt0) (same .spt1)
-      ∙ rw (same .same-length)
+      copy-read-same (no-table s img) (table-stands s (length img)) img′ img (s .spt0) (s .spt1) (same .spt0) (same .spt1)
+      ∙ rw (same .same-length, no-table-same)
 
   -- the table read is one of the two
   table-same : (at : ℕ) → table-read s img ≡ given at → block img at ≡ block img′ at
   unfolding table-read
   table-same at e =
-      pick (which-address 4 (table-stands s (length img)) img (s .spt0) (s .spt1) at e)
+      pick (which-address (no-table s img) (table-stands s (length img)) img (s .spt0) (s .spt1) at e)
     where
-      pick : WhichAddress 4 (table-stands s (length img)) img (s .spt0) (s .spt1) at → block img at ≡ block img′ at
+      pick : WhichAddress (table-stands s (length img)) img (s .spt0) (s .spt1) at → block img at ≡ block img′ at
       pick (inl (t, q)) = rw (← q) (same .spt0)
       pick (inr (f, t, q)) = rw (← q) (same .spt1)
 
@@ -59,7 +63,7 @@ module _ (s : Setting) (img img′ : List ℕ) (same : SameBlocks s img img′) 
   through-same at e =
       rw (
         ← table-same at e,
-        copy-read-same 5 pointers-stand img′ img (cpb0-of (block img at)) (cpb1-of (block img at))
+        copy-read-same (numbered 5) pointers-stand img′ img (cpb0-of (block img at)) (cpb1-of (block img at))
             (same .cpb0 at e) (same .cpb1 at e),
       )
 
@@ -90,9 +94,9 @@ module _ (s : Setting) (img img′ : List ℕ) (same : SameBlocks s img img′) 
       → block img a ≡ block img′ a
   unfolding pointers-read
   pointers-same at a read e =
-      pick (which-address 5 pointers-stand img (cpb0-of (block img at)) (cpb1-of (block img at)) a e)
+      pick (which-address (numbered 5) pointers-stand img (cpb0-of (block img at)) (cpb1-of (block img at)) a e)
     where
-      pick : WhichAddress 5 pointers-stand img (cpb0-of (block img at)) (cpb1-of (block img at)) a
+      pick : WhichAddress pointers-stand img (cpb0-of (block img at)) (cpb1-of (block img at)) a
           → block img a ≡ block img′ a
       pick (inl (t, q)) = rw (← q) (same .cpb0 at read)
       pick (inr (f, t, q)) = rw (← q) (same .cpb1 at read)

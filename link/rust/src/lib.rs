@@ -1,27 +1,60 @@
 //! A verified flash updater, linked: safe functions over its C interface.
 //!
-//! Every image, number and job gets an answer: what was asked for, or a [`Refused`] number, which leaves image and job
+//! Every image, number and job gets an answer: what was asked for, or a [`Refused`], which leaves image and job
 //! as they were. A Rust slice or reference is all that the library asks of what is lent, so nothing is left to check.
 
 mod raw;
 
-/// The number of a refusal: `docs/REFUSALS.md` has the list.
+/// The first rule that a copy of the table breaks, 1 to 11, and the entry that breaks it, 127 where the rule is about no
+/// entry by itself; 0 and 127 for a copy that stands.
 #[derive(Clone, Copy, Debug, PartialEq, Eq)]
-pub struct Refused(pub u8);
+pub struct Fault {
+    pub rule: u8,
+    pub entry: usize,
+}
+
+/// What each copy of the table breaks first.
+#[derive(Clone, Copy, Debug, PartialEq, Eq)]
+pub struct TableFaults {
+    pub spt0: Fault,
+    pub spt1: Fault,
+}
+
+/// A refusal: its number, of which `docs/REFUSALS.md` has the list, and with 50 and 51 what each copy of the table breaks.
+#[derive(Clone, Copy, Debug, PartialEq, Eq)]
+pub struct Refused {
+    pub number: u8,
+    pub faults: Option<TableFaults>,
+}
+
+impl Refused {
+    /// A refusal that is not about the table.
+    pub const fn numbered(number: u8) -> Refused {
+        Refused { number, faults: None }
+    }
+}
 
 impl std::fmt::Display for Refused {
     fn fmt(&self, f: &mut std::fmt::Formatter<'_>) -> std::fmt::Result {
-        write!(f, "refused {}", self.0)
+        write!(f, "refused {}", self.number)?;
+        if let Some(TableFaults { spt0, spt1 }) = self.faults {
+            write!(f, ": SPT0 breaks rule {} at entry {}", spt0.rule, spt0.entry)?;
+            write!(f, ", SPT1 rule {} at entry {}", spt1.rule, spt1.entry)?;
+        }
+        Ok(())
     }
 }
 
 impl std::error::Error for Refused {}
 
+/// The refusals that carry faults.
+const NO_TABLE: [u8; 2] = [50, 51];
+
 fn answer<T>(number: u8, given: T) -> Result<T, Refused> {
     if number == 0 {
         Ok(given)
     } else {
-        Err(Refused(number))
+        Err(Refused::numbered(number))
     }
 }
 
@@ -110,6 +143,33 @@ const ORDER_MAX: usize = 127;
 const NAME_MAX: usize = 16;
 
 impl Setting {
+    /// What was asked for, or the refusal, with the faults where no copy of the table stands.
+    fn answer<T>(&self, image: &[u8], number: u8, given: T) -> Result<T, Refused> {
+        if NO_TABLE.contains(&number) {
+            return Err(Refused { number, faults: self.table_faults(image).ok() });
+        }
+        answer(number, given)
+    }
+
+    /// What each copy of the table breaks first; refused 1 to 3 only.
+    pub fn table_faults(&self, image: &[u8]) -> Result<TableFaults, Refused> {
+        let (mut spt0, mut spt1) = (Fault { rule: 0, entry: 0 }, Fault { rule: 0, entry: 0 });
+        let number = unsafe {
+            raw::delunkpawi_table_faults(
+                image.as_ptr(),
+                image.len(),
+                self.granule,
+                self.spt0,
+                self.spt1,
+                &mut spt0.rule,
+                &mut spt0.entry,
+                &mut spt1.rule,
+                &mut spt1.entry,
+            )
+        };
+        answer(number, TableFaults { spt0, spt1 })
+    }
+
     /// The slots of the boot order, first choice first.
     pub fn order(&self, image: &[u8]) -> Result<Vec<u32>, Refused> {
         let mut row = vec![0; ORDER_MAX];
@@ -127,7 +187,7 @@ impl Setting {
             )
         };
         row.truncate(count);
-        answer(number, row)
+        self.answer(image, number, row)
     }
 
     /// How many application slots there are.
@@ -143,7 +203,7 @@ impl Setting {
                 &mut count,
             )
         };
-        answer(number, count)
+        self.answer(image, number, count)
     }
 
     /// The row of a slot in the table, its start, length and flags.
@@ -163,7 +223,7 @@ impl Setting {
                 &mut facts.flags,
             )
         };
-        answer(number, facts)
+        self.answer(image, number, facts)
     }
 
     /// The name of a slot, up to its zero.
@@ -195,7 +255,7 @@ impl Setting {
                 &mut count,
             )
         };
-        answer(number, count)
+        self.answer(image, number, count)
     }
 
     /// Where the pointer blocks are, and which copies are read.
@@ -214,7 +274,7 @@ impl Setting {
                 &mut view.pointers,
             )
         };
-        answer(number, view)
+        self.answer(image, number, view)
     }
 
     /// Which copies stand, and which pairs agree.
@@ -243,7 +303,7 @@ impl Setting {
             tables: tables == 1,
             pointers: pointers == 1,
         };
-        answer(number, condition)
+        self.answer(image, number, condition)
     }
 
     /// How many entries the table read has.
@@ -259,7 +319,7 @@ impl Setting {
                 &mut count,
             )
         };
-        answer(number, count)
+        self.answer(image, number, count)
     }
 
     /// An entry of the table read: its name up to its zero, its start, length and flags.
@@ -283,7 +343,7 @@ impl Setting {
             )
         };
         found.name.truncate(count);
-        answer(number, found)
+        self.answer(image, number, found)
     }
 
     /// How many places the pointer block read has.
@@ -299,7 +359,7 @@ impl Setting {
                 &mut count,
             )
         };
-        answer(number, count)
+        self.answer(image, number, count)
     }
 
     /// What a place of the pointer block read holds, and its value.
@@ -325,7 +385,7 @@ impl Setting {
             3 => Place::PartWritten,
             _ => Place::Stray,
         };
-        answer(number, (judgement, value))
+        self.answer(image, number, (judgement, value))
     }
 
     /// A job by which a slot comes first in the boot order: refused 14 if its first 4,096 bytes are all 0xFF.
@@ -339,7 +399,7 @@ impl Setting {
     }
 
     fn slot_job(&self, start: raw::SlotStart, image: &[u8], slot: u32) -> Result<Job, Refused> {
-        started(|job| unsafe {
+        self.started(image, |job| unsafe {
             start(
                 image.as_ptr(),
                 image.len(),
@@ -355,7 +415,7 @@ impl Setting {
 
     /// A job by which a slot gets another name.
     pub fn rename(&self, image: &[u8], slot: u32, name: &[u8]) -> Result<Job, Refused> {
-        started(|job| unsafe {
+        self.started(image, |job| unsafe {
             raw::delunkpawi_rename(
                 image.as_ptr(),
                 image.len(),
@@ -373,7 +433,7 @@ impl Setting {
 
     /// A job by which the copies of a pair that disagree become the copy read.
     pub fn repair(&self, image: &[u8]) -> Result<Job, Refused> {
-        started(|job| unsafe {
+        self.started(image, |job| unsafe {
             raw::delunkpawi_repair(
                 image.as_ptr(),
                 image.len(),
@@ -385,18 +445,18 @@ impl Setting {
             )
         })
     }
-}
 
-/// A job into a new buffer of the library's own length.
-fn started(start: impl FnOnce(&mut [u8]) -> u8) -> Result<Job, Refused> {
-    assert_eq!(
-        unsafe { raw::delunkpawi_job_size() },
-        JOB_SIZE,
-        "this wrapper is not for this library"
-    );
-    let mut bytes = Box::new([0; JOB_SIZE]);
-    let number = start(&mut bytes[..]);
-    answer(number, Job { bytes })
+    /// A job into a new buffer of the library's own length.
+    fn started(&self, image: &[u8], start: impl FnOnce(&mut [u8]) -> u8) -> Result<Job, Refused> {
+        assert_eq!(
+            unsafe { raw::delunkpawi_job_size() },
+            JOB_SIZE,
+            "this wrapper is not for this library"
+        );
+        let mut bytes = Box::new([0; JOB_SIZE]);
+        let number = start(&mut bytes[..]);
+        self.answer(image, number, Job { bytes })
+    }
 }
 
 impl Job {
@@ -408,7 +468,7 @@ impl Job {
     /// The job that bytes hold: refused 90 if they hold none.
     pub fn from_bytes(bytes: &[u8]) -> Result<Job, Refused> {
         let Ok(array) = <[u8; JOB_SIZE]>::try_from(bytes) else {
-            return Err(Refused(90));
+            return Err(Refused::numbered(90));
         };
         let job = Job { bytes: Box::new(array) };
         job.remaining().map(|_| job)

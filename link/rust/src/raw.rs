@@ -55,6 +55,17 @@ extern "C" {
         table: *mut usize,
         pointers: *mut usize,
     ) -> u8;
+    pub fn delunkpawi_table_faults(
+        image: *const u8,
+        image_length: usize,
+        granule: usize,
+        spt0: usize,
+        spt1: usize,
+        spt0_rule: *mut u8,
+        spt0_entry: *mut usize,
+        spt1_rule: *mut u8,
+        spt1_entry: *mut usize,
+    ) -> u8;
     pub fn delunkpawi_copies(
         image: *const u8,
         image_length: usize,

@@ -1,6 +1,8 @@
 //! Document 01's cases on the quarry image, through every function of the library.
 
-use delunkpawi::{Condition, Entry, Facts, Job, Place, Refused, Setting, Step, View};
+use delunkpawi::{
+    Condition, Entry, Facts, Fault, Job, Place, Refused, Setting, Step, TableFaults, View,
+};
 
 const SETTING: Setting = Setting { granule: 4096, spt0: 0x4000, spt1: 0x5000 };
 
@@ -28,7 +30,7 @@ fn finish(mut job: Job, image: &mut [u8]) -> usize {
         assert_eq!(job.run(image, usize::MAX), Ok(steps));
     }
     assert_eq!(job.next_step(), Ok(None));
-    assert_eq!(job.run(image, 1), Err(Refused(11)));
+    assert_eq!(job.run(image, 1), Err(Refused::numbered(11)));
     steps
 }
 
@@ -50,17 +52,37 @@ fn looks_into() {
     assert_eq!(SETTING.entry_count(&image), Ok(9));
     let first = Entry { name: b"BOOT_INFO".to_vec(), start: 0, size: 0x2000, flags: 1 };
     assert_eq!(SETTING.entry(&image, 0), Ok(first));
-    assert_eq!(SETTING.entry(&image, 9), Err(Refused(92)));
+    assert_eq!(SETTING.entry(&image, 9), Err(Refused::numbered(92)));
     assert_eq!(SETTING.place_count(&image), Ok(508));
     assert_eq!(SETTING.place(&image, 1), Ok((Place::Live(1), 0x9000)));
     assert_eq!(SETTING.place(&image, 2), Ok((Place::Erased, u64::MAX)));
-    assert_eq!(SETTING.place(&image, 508), Err(Refused(93)));
+    assert_eq!(SETTING.place(&image, 508), Err(Refused::numbered(93)));
     image[0x6021] = 0;
     assert_eq!(SETTING.place(&image, 0), Ok((Place::Spent, 0)));
     image[0x6020] = 1;
     assert_eq!(SETTING.place(&image, 0), Ok((Place::Stray, 1)));
     image[0x6027] = 0xFF;
     assert_eq!(SETTING.place(&image, 0), Ok((Place::PartWritten, 0xFF00_0000_0000_0001)));
+}
+
+#[test]
+fn tells_which_rule_the_table_broke() {
+    let mut image = quarry();
+    let none = Fault { rule: 0, entry: 127 };
+    assert_eq!(SETTING.table_faults(&image), Ok(TableFaults { spt0: none, spt1: none }));
+    image[0x5004] = 1;
+    let header = Fault { rule: 1, entry: 127 };
+    assert_eq!(SETTING.table_faults(&image), Ok(TableFaults { spt0: none, spt1: header }));
+    image[0x4020 + 32 * 8] = 0;
+    let faults = TableFaults { spt0: Fault { rule: 3, entry: 8 }, spt1: header };
+    let refused = Refused { number: 51, faults: Some(faults) };
+    assert_eq!(SETTING.order(&image), Err(refused));
+    assert_eq!(SETTING.repair(&image).err(), Some(refused));
+    image[0x4000] = 0;
+    image[0x5000] = 0;
+    let faults = TableFaults { spt0: header, spt1: header };
+    assert_eq!(SETTING.order(&image), Err(Refused { number: 50, faults: Some(faults) }));
+    assert_eq!(SETTING.table_faults(&[]), Err(Refused::numbered(1)));
 }
 
 #[test]
@@ -76,22 +98,22 @@ fn tells_which_copies_stand() {
     assert_eq!(SETTING.condition(&image), Ok(cut));
     assert_eq!(SETTING.view(&image).map(|view| view.pointers), Ok(0x7000));
     image[0x7000] = 0;
-    assert_eq!(SETTING.condition(&image), Err(Refused(5)));
+    assert_eq!(SETTING.condition(&image), Err(Refused::numbered(5)));
 }
 
 #[test]
 fn refuses() {
     let image = quarry();
     let other = Setting { granule: 8192, ..SETTING };
-    assert_eq!(SETTING.order(&[]), Err(Refused(1)));
-    assert_eq!(other.slot_count(&image), Err(Refused(2)));
-    assert_eq!(SETTING.slot_facts(&image, 3), Err(Refused(7)));
-    assert_eq!(SETTING.slot_name(&image, 3), Err(Refused(7)));
-    assert_eq!(SETTING.slot_name_into(&image, 2, &mut [0]), Err(Refused(91)));
+    assert_eq!(SETTING.order(&[]), Err(Refused::numbered(1)));
+    assert_eq!(other.slot_count(&image), Err(Refused::numbered(2)));
+    assert_eq!(SETTING.slot_facts(&image, 3), Err(Refused::numbered(7)));
+    assert_eq!(SETTING.slot_name(&image, 3), Err(Refused::numbered(7)));
+    assert_eq!(SETTING.slot_name_into(&image, 2, &mut [0]), Err(Refused::numbered(91)));
     assert_eq!(SETTING.slot_name_into(&image, 2, &mut [0; 2]), Ok(2));
-    assert_eq!(SETTING.disable(&image, 2).err(), Some(Refused(8)));
-    assert_eq!(SETTING.rename(&image, 0, &[b'n'; 16]).err(), Some(Refused(9)));
-    assert_eq!(SETTING.rename(&image, 0, b"P2").err(), Some(Refused(10)));
+    assert_eq!(SETTING.disable(&image, 2).err(), Some(Refused::numbered(8)));
+    assert_eq!(SETTING.rename(&image, 0, &[b'n'; 16]).err(), Some(Refused::numbered(9)));
+    assert_eq!(SETTING.rename(&image, 0, b"P2").err(), Some(Refused::numbered(10)));
 }
 
 #[test]
@@ -128,7 +150,7 @@ fn repairs_after_a_cut() {
     assert_eq!(job.next_step(), Ok(Some(Step::Program(0x7030, 0x00))));
     assert_eq!(job.run(&mut image, 15), Ok(15));
     assert_eq!(SETTING.order(&image), Ok(vec![1, 0]));
-    assert_eq!(SETTING.enable(&image, 2).err(), Some(Refused(6)));
+    assert_eq!(SETTING.enable(&image, 2).err(), Some(Refused::numbered(6)));
     let job = SETTING.repair(&image).unwrap();
     assert_eq!(job.next_step(), Ok(Some(Step::Program(0x7000, 0x00))));
     assert_eq!(finish(job, &mut image), 4101);
@@ -159,7 +181,7 @@ fn counts_steps_done_by_a_driver() {
     assert_eq!(driven.advance(0), Ok(0));
     assert_eq!(driven.advance(usize::MAX), Ok(3202));
     assert_eq!(driven.next_step(), Ok(None));
-    assert_eq!(driven.advance(0), Err(Refused(11)));
+    assert_eq!(driven.advance(0), Err(Refused::numbered(11)));
 }
 
 #[test]
@@ -169,10 +191,10 @@ fn keeps_a_job_as_bytes() {
     assert_eq!(job.run(&mut image, 7), Ok(7));
     let bytes = *job.bytes();
     assert_eq!(Job::from_bytes(&bytes).unwrap().remaining(), Ok(9));
-    assert_eq!(Job::from_bytes(&bytes[1..]).err(), Some(Refused(90)));
+    assert_eq!(Job::from_bytes(&bytes[1..]).err(), Some(Refused::numbered(90)));
     let mut damaged = bytes;
     damaged[FIRST_KIND] = 3;
-    assert_eq!(Job::from_bytes(&damaged).err(), Some(Refused(90)));
-    assert_eq!(job.run(&mut image[4096..], 1), Err(Refused(12)));
+    assert_eq!(Job::from_bytes(&damaged).err(), Some(Refused::numbered(90)));
+    assert_eq!(job.run(&mut image[4096..], 1), Err(Refused::numbered(12)));
     assert!(job.bytes() == &bytes);
 }

@@ -1,16 +1,17 @@
 -- `reading::view` is the view of the flash: one case for each refusal and for each table copy. Assumes nothing.
-use mathlib.Core.Path.{_≡_, sym, _∙_}
+use mathlib.Core.Path.{_≡_, sym, ap, _∙_}
 use mathlib.Core.Bool.{true}
 use Prim.Native.Nat.{_≤_}
 use native.Mathlib.Omega.{arith}
 use lib.ListN.{length}
 use borrow.Author.Needs.{needs}
 use Rattle.rules.specs.Bytes.{block-size}
+use Rattle.rules.specs.Answers.{refused}
 use Rattle.rules.specs.Numbers.{length-right, granule-right, addresses-right}
 use Rattle.rules.proofs.Claim.Invariant.{granule-holds-block}
 use Rattle.walks.proofs.Joined.{failed, passed}
 use Rattle.reading.specs.Answers.{viewed}
-use Rattle.reading.proofs.Views.{refused-1, refused-2, refused-3, refused-4, through-spt0, through-spt1}
+use Rattle.reading.proofs.Views.{refused-1, refused-2, refused-3, refused-without, through-spt0, through-spt1}
 use Rattle.reading.proofs.Seen.{told-inside, followed}
 use Rattle.reading.proofs.view.Statement.{statement}
 use Rattle.reading.proofs.view.Tie as tie
@@ -119,16 +120,26 @@ returns-5 c =
     (grained (in-place .before .before)) (placed in-place) (sym (not-first .before .table-stands .ensures) ∙ not-first .if4 .left)
     (sym (second .table-stands2 .ensures) ∙ c .before .if5 .taken))
 
+no-table-requires : tie.Need-no-table-requires
+no-table-requires c κs =
+    let in-place = c .before .before .before .before in
+    let holds = holds-block (in-place .before .before) in
+    let a = in-place .before .before .before .before .before .before .before .args in
+    let (inside0, inside1) = told-inside (a .setting) (length (a .image .now)) (placed in-place) in
+    record { spt0-inside = omega arith; spt1-inside = omega arith; some-granule = omega arith }
+
 returns-6 : tie.Need-returns-6
 unfolding viewed
 returns-6 c =
-    let not-first = c .before .before in
+    let not-second = c .before in
+    let not-first = not-second .before .before in
     let in-place = not-first .before .before in
     let a = in-place .before .before .before .before .before .before .before .args in
-    sym
-    (refused-4 (a .setting) (a .image .now) (long (in-place .before .before .before .before))
+    ap refused (c .no-table .ensures)
+    ∙ sym
+    (refused-without (a .setting) (a .image .now) (long (in-place .before .before .before .before))
     (grained (in-place .before .before)) (placed in-place) (sym (not-first .before .table-stands .ensures) ∙ not-first .if4 .left)
-    (sym (c .before .table-stands2 .ensures) ∙ c .if5 .left))
+    (sym (not-second .before .table-stands2 .ensures) ∙ not-second .if5 .left))
 
 pub view-spec : {M : Type 1} → statement M
 view-spec =
@@ -146,4 +157,5 @@ view-spec =
     table-stands-requires-2
     view-through-requires-2
     returns-5
+    no-table-requires
     returns-6)

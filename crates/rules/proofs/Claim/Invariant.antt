@@ -10,16 +10,16 @@ use lib.Dec.{eqb}
 use borrow.Author.Tests.{eqb-true}
 use lib.ListN.{length}
 use Rattle.rules.specs.Bytes.{Bytes, block, block-size}
-use Rattle.rules.specs.Answers.{given, unless, _>>=_}
+use Rattle.rules.specs.Answers.{given, numbered, unless, _>>=_}
 use Rattle.rules.specs.Numbers.{length-right, granule-right, addresses-right}
 use Rattle.rules.specs.declared.Setting.{Setting}
-use Rattle.rules.specs.Table.{table-magic, header-right, table-stands, starts, cpb0-of, cpb1-of}
+use Rattle.rules.specs.Table.{table-magic, magic-right, header-right, table-stands, starts, cpb0-of, cpb1-of}
 use Rattle.rules.specs.Pointers.{pointers-stand}
-use Rattle.rules.specs.Copies.{copy-read, table-read, pointers-read, view-through, view, order-by, boot-order, tables-agree, pointers-agree, agree-by, agreed, pairs-agree}
+use Rattle.rules.specs.Copies.{copy-read, no-table, table-read, pointers-read, view-through, view, order-by, boot-order, tables-agree, pointers-agree, agree-by, agreed, pairs-agree}
 use Rattle.rules.specs.Book.{Reading, read-by, reading}
 use Rattle.rules.specs.declared.View.{View}
 use Rattle.rules.proofs.Lists.Tests.{and-true, or-true}
-use Rattle.rules.proofs.Copies.CopyRead.{read-stands, equal-read, address-read, agree-equal, equal-agree}
+use Rattle.rules.proofs.Copies.CopyRead.{WhichAddress, which-address, read-stands, equal-read, address-read, agree-equal, equal-agree}
 use Rattle.rules.proofs.Steps.Frame.{Only, Range, only-then, only-wider, block-kept}
 use Rattle.rules.proofs.Steps.RewriteCuts.{Torn, torn-magic}
 use Rattle.rules.proofs.Copies.PairCuts.{Two, Pair, Reads}
@@ -28,7 +28,7 @@ use Rattle.rules.proofs.Table.Standing.{Standing, standing, Apart, Four
 use Rattle.rules.proofs.Table.SlotStarts.{length-fits, SlotStarts, slot-starts-right}
 
 pub table-torn : (s : Setting) (len : ℕ) (t : List ℕ) → Torn t → table-stands s len t ≡ false
-unfolding table-stands header-right
+unfolding table-stands header-right magic-right
 table-torn s len t torn = rw (torn-magic table-magic (record { not-erased = λ e. omega arith; not-zero = λ e. omega arith; highest-not-erased = omega arith }) t torn)
 
 pub granule-holds-block : (g : ℕ) → granule-right g ≡ true → block-size ≤ g
@@ -66,7 +66,6 @@ module _ (beginning : Beginning) where
   abbrev pub table-pair : Pair
   table-pair = record {
     granule = s .granule;
-    number = 4;
     stands = table-stands s (length first);
     a0 = s .spt0;
     a1 = s .spt1;
@@ -134,13 +133,22 @@ module _ (beginning : Beginning) where
     -- ---- the view and the reading
 
     pub table-address : (a : ℕ)
-        × (copy-read 4 (table-stands s (length first)) img (s .spt0) (s .spt1) ≡ given a)
+        × (copy-read (no-table s img) (table-stands s (length first)) img (s .spt0) (s .spt1) ≡ given a)
         × (block img a ≡ r .table)
     table-address =
-        address-read 4 (table-stands s (length first)) img (s .spt0) (s .spt1) (r .table) (h .reads-table)
+        address-read (no-table s img) (table-stands s (length first)) img (s .spt0) (s .spt1) (r .table) (h .reads-table)
 
-    pub pointers-address : (a : ℕ) × (copy-read 5 pointers-stand img c0 c1 ≡ given a) × (block img a ≡ h .pointers)
-    pointers-address = address-read 5 pointers-stand img c0 c1 (h .pointers) (h .reads-pointers)
+    pub pointers-address : (a : ℕ) × (copy-read (numbered 5) pointers-stand img c0 c1 ≡ given a) × (block img a ≡ h .pointers)
+    pointers-address = address-read (numbered 5) pointers-stand img c0 c1 (h .pointers) (h .reads-pointers)
+
+    pub which-table : WhichAddress (table-stands s (length first)) img (s .spt0) (s .spt1) (table-address .0)
+    which-table =
+        which-address (no-table s img) (table-stands s (length first)) img (s .spt0) (s .spt1) (table-address .0)
+        (table-address .1)
+
+    pub which-pointers : WhichAddress pointers-stand img c0 c1 (pointers-address .0)
+    which-pointers =
+        which-address (numbered 5) pointers-stand img c0 c1 (pointers-address .0) (pointers-address .1)
 
     abbrev pub the-view : View
     the-view = record {
@@ -176,7 +184,7 @@ module _ (beginning : Beginning) where
     pub table-standing : Standing s (length first) (r .table)
     table-standing =
         standing s (length first) (r .table)
-        (read-stands 4 (table-stands s (length first)) (block img (s .spt0)) (block img (s .spt1)) (r .table)
+        (read-stands (table-stands s (length first)) (block img (s .spt0)) (block img (s .spt1)) (r .table)
         (h .reads-table))
 
     pub starts-right : SlotStarts (starts (r .table))
@@ -197,8 +205,8 @@ module _ (beginning : Beginning) where
     unfolding pairs-agree agreed agree-by tables-agree pointers-agree
     both-equal-agree (p, q) =
         let stands : List ℕ → Bool = table-stands s (length first) in
-        let ts = equal-read 4 stands (block img (s .spt0)) (block img (s .spt1)) (r .table) (h .reads-table) p .1 in
-        let ps = equal-read 5 pointers-stand (block img c0) (block img c1) (h .pointers) (h .reads-pointers) q .1 in
+        let ts = equal-read stands (block img (s .spt0)) (block img (s .spt1)) (r .table) (h .reads-table) p .1 in
+        let ps = equal-read pointers-stand (block img c0) (block img c1) (h .pointers) (h .reads-pointers) q .1 in
         rw (view-is, h .kept .same-length, equal-agree (table-stands s (length first)) img (s .spt0) (s .spt1) ts p)
         (equal-agree pointers-stand img c0 c1 ps q)
 

@@ -3,21 +3,21 @@ use mathlib.Core.Path.{_≡_, refl, sym, ap, _∙_}
 use mathlib.Core.Bool.{Bool, true, false}
 use mathlib.Core.Logic.{_⊎_, inl, inr}
 use mathlib.Core.List.{List, []}
+use mathlib.Core.Option.{some}
 use Prim.Native.Nat.{ℕ, _+_, _≤_}
 use native.Mathlib.Omega.{arith}
 use borrow.Author.Tests.{eq-eqb, ne-eqb}
 use lib.ListN.{length}
 use Rattle.rules.specs.Bytes.{Bytes, block, block-size}
-use Rattle.rules.specs.Answers.{given}
 use Rattle.rules.specs.Steps.{steps, rewrite, rewrite-pair}
-use Rattle.rules.specs.Copies.{copy-read, pair-agrees}
+use Rattle.rules.specs.Copies.{pair-agrees}
 use Rattle.rules.specs.Commands.{repair-pair}
 use Rattle.rules.proofs.Lists.Tests.{by-cases}
 use Rattle.rules.proofs.Steps.Programming.{steps-append}
 use Rattle.rules.proofs.Steps.Cutting.{Cut, cut-all, cut-append}
 use Rattle.rules.proofs.Steps.Frame.{Only, Range, only-none, only-then, only-wider, StepsWithin, within-append, within-wider, block-kept, length-block, bytes-block}
 use Rattle.rules.proofs.Steps.RewriteCuts.{Torn, RewriteCut, rewrite-within, rewrite-only, rewrite-done, rewrite-cut}
-use Rattle.rules.proofs.Copies.CopyRead.{block-read, first-read, second-read, WhichAddress, which-address, block-at-read, agree-equal}
+use Rattle.rules.proofs.Copies.CopyRead.{block-read, first-read, second-read, WhichAddress, block-at-read, agree-equal}
 
 -- the first granules of two copies
 abbrev pub Two : ℕ → ℕ → ℕ → ℕ → Type 0
@@ -26,7 +26,6 @@ Two g a0 a1 i = Range a0 g i ⊎ Range a1 g i
 -- two copies of what stands by a test that a torn block fails, on granules of their own
 pub record Pair : Type 0 where
   pub granule : ℕ
-  pub number : ℕ
   pub stands : List ℕ → Bool
   pub a0 : ℕ
   pub a1 : ℕ
@@ -35,11 +34,11 @@ pub record Pair : Type 0 where
   pub apart : (i : ℕ) → Range a0 granule i → Range a1 granule i → ⊥
 
 module _ (pair : Pair) where
-  open Pair pair using (granule, number, stands, a0, a1, torn-falls, holds-block, apart)
+  open Pair pair using (granule, stands, a0, a1, torn-falls, holds-block, apart)
 
   -- the block read of an image
   abbrev pub Reads : List ℕ → List ℕ → Type 0
-  Reads img b = block-read number stands (block img a0) (block img a1) ≡ given b
+  Reads img b = block-read stands (block img a0) (block img a1) ≡ some b
 
   abbrev pub Changes : List ℕ → List ℕ → Type 0
   Changes img img′ = Only (Two granule a0 a1) img img′
@@ -80,7 +79,7 @@ module _ (pair : Pair) where
     copy1-cut b lb hb s img′ c =
         let o = rewrite-only granule a1 b lb hb holds-block img img′ in1 c in
         let e = block-kept (Range a1 granule) a0 o (λ i r q. apart i (omega arith) q) in
-        (only-wider (λ i r. inr r) o, e, rw e (first-read number stands (block img a0) (block img′ a1) s))
+        (only-wider (λ i r. inr r) o, e, rw e (first-read stands (block img a0) (block img′ a1) s))
 
     -- copy 1 is whole while copy 0 is rewritten
     copy0-cut : (b : List ℕ)
@@ -101,11 +100,11 @@ module _ (pair : Pair) where
             → (block img′ a0 ≡ block img a0) ⊎ Reads img′ b
         split y (inl e) = inl (ap (λ (l : List ℕ). block l a0) e)
         split y (inr (inl t)) =
-            inr (rw y (second-read number stands (block img′ a0) b (torn-falls (block img′ a0) t) s))
+            inr (rw y (second-read stands (block img′ a0) b (torn-falls (block img′ a0) t) s))
         split y (inr (inr e)) =
             let w : block img′ a0 ≡ b =
             ap (λ (l : List ℕ). block l a0) e ∙ rewrite-done granule a0 b lb hb holds-block img in0 in
-            inr (rw w (first-read number stands b (block img′ a1) s))
+            inr (rw w (first-read stands b (block img′ a1) s))
 
   -- ---- rewritten
 
@@ -135,7 +134,7 @@ module _ (pair : Pair) where
             which : block mid a0 ≡ block img a0
                 → (block img′ a0 ≡ block mid a0) ⊎ Reads img′ b
                 → Reads img′ (block img a0) ⊎ Reads img′ b
-            which e (inl q) = inl (rw (q ∙ e) (first-read number stands (block img a0) (block img′ a1) s0))
+            which e (inl q) = inl (rw (q ∙ e) (first-read stands (block img a0) (block img′ a1) s0))
             which e (inr q) = inr q
 
     -- both copies are the new block
@@ -177,17 +176,13 @@ module _ (pair : Pair) where
   pub repair-pair-same : (x y : List ℕ) (read : ℕ)
       → block y a0 ≡ block x a0
       → block y a1 ≡ block x a1
-      → copy-read number stands x a0 a1 ≡ given read
+      → WhichAddress stands x a0 a1 read
       → repair-pair stands y a0 a1 read ≡ repair-pair stands x a0 a1 read
   unfolding repair-pair pair-agrees
-  repair-pair-same x y read e0 e1 h = split (which-address number stands x a0 a1 read h)
-    where
-      split : WhichAddress number stands x a0 a1 read
-          → repair-pair stands y a0 a1 read ≡ repair-pair stands x a0 a1 read
-      split (inl (t, e)) = rw (← e, e0, e1)
-      split (inr (f, t, e)) = rw (← e, e0, e1)
+  repair-pair-same x y read e0 e1 (inl (t, e)) = rw (← e, e0, e1)
+  repair-pair-same x y read e0 e1 (inr (f, t, e)) = rw (← e, e0, e1)
 
-  module _ (img : List ℕ) (read : ℕ) (reads : copy-read number stands img a0 a1 ≡ given read) where
+  module _ (img : List ℕ) (read : ℕ) (reads : WhichAddress stands img a0 a1 read) where
     -- copy 1 is rewritten from copy 0, or copy 0 from copy 1
     abbrev Rewrites : Type 0
     Rewrites =
@@ -203,12 +198,12 @@ module _ (pair : Pair) where
     unfolding repair-pair
     which-repair = by-cases (pair-agrees stands img a0 a1)
         (λ t. inl (rw t, agree-equal stands img a0 a1 t))
-        (λ f. inr (split f (which-address number stands img a0 a1 read reads)))
+        (λ f. inr (split f reads))
       where
         differ : a1 ≡ a0 → ⊥
         differ e = apart a0 (omega arith) (omega arith)
 
-        split : pair-agrees stands img a0 a1 ≡ false → WhichAddress number stands img a0 a1 read → Rewrites
+        split : pair-agrees stands img a0 a1 ≡ false → WhichAddress stands img a0 a1 read → Rewrites
         split f (inl (t, e)) = inl (rw (f, ← e, eq-eqb a0 a0 refl), t, e)
         split f (inr (n, t, e)) = inr (rw (f, ← e, ne-eqb a1 a0 differ), n, t, e)
 
@@ -238,14 +233,14 @@ module _ (pair : Pair) where
               → (block img′ a0 ≡ block img a0) ⊎ Reads img′ b
               → block img′ a1 ≡ b
               → Reads img′ b
-          still b f t (inl q) x = rw (q, x) (second-read number stands (block img a0) b f t)
+          still b f t (inl q) x = rw (q, x) (second-read stands (block img a0) b f t)
           still b f t (inr q) x = q
 
           split : ((repair-pair stands img a0 a1 read ≡ []) × (block img a0 ≡ block img a1)) ⊎ Rewrites
               → Changes img img′ × Reads img′ (block img read)
           split (inl (n, e)) =
               let same : img′ ≡ img = rw n at c in
-              (only-none img img′ same, rw same (block-at-read number stands img a0 a1 read reads))
+              (only-none img img′ same, rw same (block-at-read stands img a0 a1 read reads))
           split (inr (inl (w, t, e))) =
               let (o, k, r) = copy1-cut img in0 in1 (block img a0)
               (length-block img a0 (omega arith)) (bytes-block img a0 (omega arith) small) t img′ (rw w at c) in
@@ -258,10 +253,10 @@ module _ (pair : Pair) where
       -- both copies are the block that was read
       pub repair-pair-done : (block (steps granule (repair-pair stands img a0 a1 read) img) a0 ≡ block img read)
           × (block (steps granule (repair-pair stands img a0 a1 read) img) a1 ≡ block img read)
-      repair-pair-done = split which-repair (which-address number stands img a0 a1 read reads)
+      repair-pair-done = split which-repair reads
         where
           split : ((repair-pair stands img a0 a1 read ≡ []) × (block img a0 ≡ block img a1)) ⊎ Rewrites
-              → WhichAddress number stands img a0 a1 read
+              → WhichAddress stands img a0 a1 read
               → (block (steps granule (repair-pair stands img a0 a1 read) img) a0 ≡ block img read)
               × (block (steps granule (repair-pair stands img a0 a1 read) img) a1 ≡ block img read)
           split (inl (n, e)) (inl (t, q)) = rw (n, ← q) (unfold steps in (refl, sym e))

@@ -2,14 +2,14 @@
 use mathlib.Core.Path.{_≡_, sym, ap, _∙_}
 use mathlib.Core.Logic.{_⊎_, inl, inr}
 use mathlib.Core.List.{List, _++_}
+use mathlib.Core.Option.{some}
 use Prim.Native.Nat.{ℕ, _+_, _≤_}
 use lib.ListN.{length}
 use Rattle.rules.specs.Bytes.{Bytes, block}
-use Rattle.rules.specs.Answers.{given}
+use Rattle.rules.specs.Answers.{given, numbered}
 use Rattle.rules.specs.Table.{table-stands}
 use Rattle.rules.specs.Pointers.{pointers-stand}
 use Rattle.rules.specs.Steps.{steps}
-use Rattle.rules.specs.Copies.{copy-read}
 use Rattle.rules.specs.Commands.{repair, repair-pair, repair-steps}
 use Rattle.rules.specs.Book.{Reading, changed}
 use Rattle.rules.specs.declared.Step.{Step}
@@ -17,9 +17,9 @@ use Rattle.rules.proofs.Lists.Tests.{given-inj}
 use Rattle.rules.proofs.Steps.Programming.{steps-append}
 use Rattle.rules.proofs.Steps.Cutting.{Cut, cut-all, cut-append}
 use Rattle.rules.proofs.Steps.Frame.{StepsWithin, within-append, within-wider}
-use Rattle.rules.proofs.Copies.CopyRead.{copy-read-same}
+use Rattle.rules.proofs.Copies.CopyRead.{WhichAddress, copy-read-same}
 use Rattle.rules.proofs.Copies.PairCuts.{Two, Pair, Reads, Changes, repair-pair-same, repair-pair-within, repair-pair-cut, repair-pair-done}
-use Rattle.rules.proofs.Claim.Invariant.{Beginning, TableGranules, PointerGranules, FourGranules, Invariant, table-pair, pointer-pair, tables-kept, pointers-kept, table-address, pointers-address, the-view, blocks-inside, with-new-tables, with-new-pointers}
+use Rattle.rules.proofs.Claim.Invariant.{Beginning, TableGranules, PointerGranules, FourGranules, Invariant, table-pair, pointer-pair, tables-kept, pointers-kept, table-address, pointers-address, which-table, which-pointers, the-view, blocks-inside, with-new-tables, with-new-pointers}
 use Rattle.rules.proofs.Claim.JobRight.{JobRight, job-right}
 
 -- ---- one pair
@@ -33,14 +33,14 @@ record Repairs (pair : Pair) (img b : List ℕ) (ss : List Step) : Type 0 where
 module _ (pair : Pair) (img : List ℕ) (in0 : pair .a0 + pair .granule ≤ length img)
     (in1 : pair .a1 + pair .granule ≤ length img) (bytes : Bytes img) where
   repairs : (read : ℕ) (b : List ℕ)
-      → copy-read (pair .number) (pair .stands) img (pair .a0) (pair .a1) ≡ given read
+      → WhichAddress (pair .stands) img (pair .a0) (pair .a1) read
       → block img read ≡ b
       → Repairs pair img b (repair-pair (pair .stands) img (pair .a0) (pair .a1) read)
   repairs read b reads e = record {
     within = repair-pair-within pair img read reads in0 in1 bytes;
     at-cut = λ img′ d.
         let (o, q) = repair-pair-cut pair img read reads in0 in1 bytes img′ d in
-        (o, q ∙ ap given e);
+        (o, q ∙ ap some e);
     at-end = let (e0, e1) = repair-pair-done pair img read reads in0 in1 bytes in e0 ∙ sym e1;
   }
 
@@ -58,15 +58,16 @@ module _ (beginning : Beginning) where
     tables-repaired : Repairs (table-pair beginning) img (r .table) repair-tables
     tables-repaired =
         let inside = blocks-inside beginning img r h in
-        let (a, at, holds) = table-address beginning img r h in
-        repairs (table-pair beginning) img (inside .spt0-inside) (inside .spt1-inside) (h .bytes) a (r .table) at holds
+        let (a, _, holds) = table-address beginning img r h in
+        repairs (table-pair beginning) img (inside .spt0-inside) (inside .spt1-inside) (h .bytes) a (r .table)
+        (which-table beginning img r h) holds
 
     pointers-repaired : Repairs (pointer-pair beginning) img (h .pointers) repair-pointers
     pointers-repaired =
         let inside = blocks-inside beginning img r h in
-        let (a, at, holds) = pointers-address beginning img r h in
-        repairs (pointer-pair beginning) img (inside .cpb0-inside) (inside .cpb1-inside) (h .bytes)
-        a (h .pointers) at holds
+        let (a, _, holds) = pointers-address beginning img r h in
+        repairs (pointer-pair beginning) img (inside .cpb0-inside) (inside .cpb1-inside) (h .bytes) a (h .pointers)
+        (which-pointers beginning img r h) holds
 
     holds-while-tables : (img′ : List ℕ) → Cut (s .granule) repair-tables img img′ → Invariant beginning img′ r
     holds-while-tables img′ d =
@@ -105,9 +106,9 @@ module _ (beginning : Beginning) where
         let (a, at, _) = pointers-address beginning img r h in
         let (a′, at′, _) = pointers-address beginning tables-mended r tables-mended-holds in
         let (e0, e1) = pointers-kept beginning tables-mended-changes in
-        sym (repair-pair-same (pointer-pair beginning) img tables-mended a e0 e1 at)
+        sym (repair-pair-same (pointer-pair beginning) img tables-mended a e0 e1 (which-pointers beginning img r h))
         ∙ ap (λ (x : ℕ). repair-pair pointers-stand tables-mended c0 c1 x)
-        (given-inj a a′ (sym (copy-read-same 5 pointers-stand img tables-mended c0 c1 e0 e1 ∙ at) ∙ at′))
+        (given-inj a a′ (sym (copy-read-same (numbered 5) pointers-stand img tables-mended c0 c1 e0 e1 ∙ at) ∙ at′))
 
     all-within : StepsWithin (s .granule) (length img) (FourGranules beginning) (first-part ++ second-part)
     all-within =

@@ -17,10 +17,9 @@ use Rattle.rules.specs.declared.Step.{Step}
 use Rattle.rules.specs.declared.View.{View}
 use Rattle.rules.proofs.Lists.Tests.{by-cases}
 use Rattle.rules.proofs.Steps.Programming.{steps-append}
-use Rattle.rules.proofs.Copies.CopyRead.{copy-read-same}
 use Rattle.rules.proofs.Copies.PairCuts.{repair-pair-same}
 use Rattle.rules.proofs.Table.Renaming.{Allowed}
-use Rattle.rules.proofs.Claim.Invariant.{Beginning, granule-holds-block, Invariant, BothEqual, table-pair, pointer-pair, pointers-kept, table-address, pointers-address, the-view, blocks-inside}
+use Rattle.rules.proofs.Claim.Invariant.{Beginning, granule-holds-block, Invariant, BothEqual, table-pair, pointer-pair, pointers-kept, table-address, pointers-address, which-table, which-pointers, the-view, blocks-inside}
 use Rattle.rules.proofs.Pointers.PointerJobs.{agreed}
 use Rattle.rules.proofs.Table.RenameJob.{put-name-replaces}
 use Rattle.rules.proofs.Copies.RepairJob.{tables-mended, tables-mended-changes, tables-mended-holds}
@@ -61,8 +60,8 @@ module _ (b : Beginning) (img : List ℕ) (r : Reading) (h : Invariant b img r) 
       (repaired (s .granule) (table-stands s (length img)) (s .spt0) (s .spt1) (v .table) img)
   unfolding repair-steps
   repair-bytes =
-      let (t, reads-table, _) = table-address b img r h in
-      let (a, reads-pointers, _) = pointers-address b img r h in
+      let t = table-address b img r h .0 in
+      let a = pointers-address b img r h .0 in
       let at-start = blocks-inside b img r h in
       let holds = tables-mended-holds b img r h in
       let at-mid = blocks-inside b mid r holds in
@@ -70,11 +69,11 @@ module _ (b : Beginning) (img : List ℕ) (r : Reading) (h : Invariant b img r) 
       rw (h .kept .same-length)
       (steps-append (s .granule) _ (repair-pair pointers-stand img c0 c1 a) img
       ∙ ap (λ (ss : List Step). steps (s .granule) ss mid)
-      (sym (repair-pair-same (pointer-pair b) img mid a e0 e1 reads-pointers))
-      ∙ repair-pair-puts (pointer-pair b) mid a (copy-read-same 5 pointers-stand img mid c0 c1 e0 e1 ∙ reads-pointers)
+      (sym (repair-pair-same (pointer-pair b) img mid a e0 e1 (which-pointers b img r h)))
+      ∙ repair-pair-puts (pointer-pair b) mid a (rw (e0, e1) (which-pointers b img r h))
       (at-mid .cpb0-inside) (at-mid .cpb1-inside) (holds .bytes)
       ∙ ap (repaired (s .granule) pointers-stand c0 c1 a)
-      (repair-pair-puts (table-pair b) img t reads-table (at-start .spt0-inside) (at-start .spt1-inside) (h .bytes)))
+      (repair-pair-puts (table-pair b) img t (which-table b img r h) (at-start .spt0-inside) (at-start .spt1-inside) (h .bytes)))
     where
       mid : List ℕ
       mid = tables-mended b img r h

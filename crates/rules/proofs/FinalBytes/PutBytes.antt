@@ -13,7 +13,7 @@ use lib.ListN.{length, getD, drop, replicate, length-append, length-replicate}
 use Rattle.rules.specs.Bytes.{Bytes, block, block-size, bytes-of, erased-byte}
 use Rattle.rules.specs.Answers.{given}
 use Rattle.rules.specs.Steps.{steps, programs, rewrite, rewrite-pair}
-use Rattle.rules.specs.Copies.{copy-read, pair-agrees}
+use Rattle.rules.specs.Copies.{pair-agrees}
 use Rattle.rules.specs.Commands.{into-place, into-places, repair-pair}
 use Rattle.rules.specs.Final.{put-at, put-block, put-pair, put-places, repaired}
 use Rattle.rules.proofs.Lists.Tests.{by-cases}
@@ -21,7 +21,7 @@ use Rattle.rules.proofs.Steps.Programming.{anded, anded-at, anded-with-
 use Rattle.rules.proofs.Steps.Rewriting.{erased-and, steps-rewrite}
 use Rattle.rules.proofs.Steps.Cutting.{cut-all}
 use Rattle.rules.proofs.Steps.Frame.{length-block, bytes-block}
-use Rattle.rules.proofs.Copies.CopyRead.{WhichAddress, which-address}
+use Rattle.rules.proofs.Copies.CopyRead.{WhichAddress}
 use Rattle.rules.proofs.Copies.PairCuts.{Pair}
 use Rattle.rules.proofs.Steps.ProgramCuts.{programs-only}
 use Rattle.rules.proofs.Steps.RewriteCuts.{rewrite-only}
@@ -94,10 +94,10 @@ module _ (g : ℕ) (holds-block : block-size ≤ g) (b : List ℕ) (whole : leng
 -- ---- a pair repaired
 
 module _ (pair : Pair) (img : List ℕ) where
-  open Pair pair using (granule, number, stands, a0, a1, holds-block)
+  open Pair pair using (granule, stands, a0, a1, holds-block)
 
   pub repair-pair-puts : (read : ℕ)
-      → copy-read number stands img a0 a1 ≡ given read
+      → WhichAddress stands img a0 a1 read
       → a0 + granule ≤ length img
       → a1 + granule ≤ length img
       → Bytes img
@@ -111,9 +111,9 @@ module _ (pair : Pair) (img : List ℕ) where
       (length-block img read inside) (bytes-block img read inside small) (cond (eqb read a0) a1 a0) img other-inside))
     where
       inside : read + block-size ≤ length img
-      inside = split (which-address number stands img a0 a1 read reads)
+      inside = split reads
         where
-          split : WhichAddress number stands img a0 a1 read → read + block-size ≤ length img
+          split : WhichAddress stands img a0 a1 read → read + block-size ≤ length img
           split (inl (t, e)) = omega arith
           split (inr (f, t, e)) = omega arith
 

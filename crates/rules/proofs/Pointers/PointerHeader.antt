@@ -56,7 +56,6 @@ abbrev pub two-pointer-blocks : (g c0 c1 : ℕ)
     → Pair
 two-pointer-blocks g c0 c1 holds-block apart = record {
   granule = g;
-  number = 5;
   stands = pointers-stand;
   a0 = c0;
   a1 = c1;

@@ -49,7 +49,7 @@ module _ (beginning : Beginning) (img : List ℕ) (r : Reading) (h : Invariant b
   old = order xs (places p)
 
   pub copy0-read : (block img c0 ≡ p) × (pointers-stand (block img c0) ≡ true)
-  copy0-read = equal-read 5 pointers-stand (block img c0) (block img c1) p (h .reads-pointers) (equal .1)
+  copy0-read = equal-read pointers-stand (block img c0) (block img c1) p (h .reads-pointers) (equal .1)
 
   abbrev pub agreed : AgreedPointers
   agreed = record {
@@ -95,7 +95,7 @@ module _ (beginning : Beginning) (img : List ℕ) (r : Reading) (h : Invariant b
       end-holds : Invariant beginning end (with-order new)
       end-holds =
           with-new-pointers beginning img r h end end-changes (block end c0)
-          (first-read 5 pointers-stand (block end c0) (block end c1) (w .at-end .still-stands)) new
+          (first-read pointers-stand (block end c0) (block end c1) (w .at-end .still-stands)) new
           (w .at-end .reordered)
 
       which : (img′ : List ℕ)

@@ -80,7 +80,7 @@ module _ (agreed : AgreedPointers) where
     at-cut = λ img′ d. record {
       changes = only-none img img′ d;
       read = p;
-      reads = rw (d, copy0) (first-read 5 pointers-stand p (block img c1) stands);
+      reads = rw (d, copy0) (first-read pointers-stand p (block img c1) stands);
       old-or-new = inl refl;
     };
     at-end = unfold steps in record {

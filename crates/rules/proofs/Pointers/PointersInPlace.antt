@@ -90,7 +90,7 @@ module _ (agreed : AgreedPointers) where
         record {
           changes = o;
           read = block img′ c0;
-          reads = first-read 5 pointers-stand (block img′ c0) (block img′ c1)
+          reads = first-read pointers-stand (block img′ c0) (block img′ c1)
               (stand-alike p (block img′ c0) header ∙ stands);
           old-or-new = rw (places-alike p (block img′ c0) header) (split w);
         }

@@ -12,7 +12,7 @@ use lib.ListN.{length, getD, set, take, drop}
 use Rattle.rules.specs.Lists.{same, all, any, pairwise, keep}
 use Rattle.rules.specs.Bytes.{Bytes, block-size, multiple}
 use Rattle.rules.specs.declared.Setting.{Setting}
-use Rattle.rules.specs.Table.{Entry, entry-count, entries, name, cpb0-name, cpb1-name, six-names, has-name, is-fixed-name, no-entry, named, cpb0-of, cpb1-of, header-right, count-right, name-right, names-differ, range-aligned, range-inside, ranges-apart, six-named, boot-info-at-0, tables-as-told, blocks-on-granules, table-stands, is-slot, slots, slot-starts, starts}
+use Rattle.rules.specs.Table.{Entry, entry-count, entries, name, cpb0-name, cpb1-name, six-names, has-name, is-fixed-name, no-entry, named, cpb0-of, cpb1-of, magic-right, header-right, count-right, name-right, names-differ, range-aligned, range-inside, ranges-apart, six-named, boot-info-at-0, tables-as-told, blocks-on-granules, table-stands, is-slot, slots, slot-starts, starts}
 use Rattle.rules.specs.Readers.{slot-row, slot-entry}
 use Rattle.rules.specs.Commands.{put-name, name-allowed, name-free}
 use Rattle.rules.proofs.Lists.Tests.{by-cases, clash, and-true, both-true, same-true, same-of}
@@ -186,7 +186,7 @@ module _ (s : Setting) (len : ℕ) (t n : List ℕ) (k : ℕ) (whole : length t 
       (all-of-none (has-name n) _ (not-true (any (has-name n) (take row es ++ drop (suc row) es)) free)))
 
   header-kept : header-right b ≡ header-right t
-  unfolding header-right
+  unfolding header-right magic-right
   header-kept =
       let front = put-front t n row whole (at-most-127 t (st .rule2)) counted (ok .short) in
       rw (field-by-front 0x20 0 4 t b (omega arith) front, field-by-front 0x20 4 4 t b (omega arith) front)

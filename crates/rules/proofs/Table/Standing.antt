@@ -12,7 +12,7 @@ use lib.ListN.{length, getD, drop}
 use Rattle.rules.specs.Lists.{same, all, any, pairwise}
 use Rattle.rules.specs.Bytes.{multiple, block-size}
 use Rattle.rules.specs.declared.Setting.{Setting}
-use Rattle.rules.specs.Table.{Entry, entry-count, entries-from, entries, name, boot-info, factory-image, spt0-name, spt1-name, cpb0-name, cpb1-name, six-names, has-name, no-entry, named, cpb0-of, cpb1-of, header-right, count-right, name-right, names-differ, range-aligned, range-inside, ranges-apart, six-named, boot-info-at-0, tables-as-told, on-granules, blocks-on-granules, entries-stand, table-stands}
+use Rattle.rules.specs.Table.{Entry, entry-count, entries-from, entries, name, boot-info, factory-image, spt0-name, spt1-name, cpb0-name, cpb1-name, six-names, has-name, no-entry, named, cpb0-of, cpb1-of, header-right, count-right, name-right, names-differ, range-aligned, range-inside, ranges-apart, six-named, boot-info-at-0, tables-as-told, block-names, on-granules, blocks-on-granules, entries-stand, table-stands}
 use Rattle.rules.proofs.Lists.Tests.{by-cases, clash, and-true, or-true, same-true, same-of}
 use Rattle.rules.proofs.Lists.Combinators.{all-at, first-passes, first-of-all, first-with-others}
 
@@ -172,9 +172,6 @@ pub record FourBlocks (g len t0 t1 c0 c1 : ℕ) : Type 0 where
   pub spt0-cpb1 : Apart g t0 c1
   pub spt1-cpb0 : Apart g t1 c0
   pub spt1-cpb1 : Apart g t1 c1
-
-abbrev pub block-names : List (List ℕ)
-block-names = spt0-name ∷ spt1-name ∷ cpb0-name ∷ cpb1-name ∷ []
 
 granules-apart : (g : ℕ) (d e : Entry) → g ≤ d .size → g ≤ e .size → Disjoint d e → Apart g (d .start) (e .start)
 granules-apart g d e p q (inl h) = inl (omega arith)

@@ -4,11 +4,11 @@ use mathlib.Core.Path.{_≡_, sym, ap, _∙_, subst}
 use mathlib.Core.Bool.{true}
 use mathlib.Core.Logic.{_⊎_, inl, inr}
 use mathlib.Core.List.{List}
+use mathlib.Core.Option.{some}
 use Prim.Native.Nat.{ℕ, _+_, _≤_}
 use native.Mathlib.Omega.{arith}
 use lib.ListN.{length}
 use Rattle.rules.specs.Bytes.{Bytes, block, block-size}
-use Rattle.rules.specs.Answers.{given}
 use Rattle.rules.specs.Table.{table-stands}
 use Rattle.rules.specs.Steps.{steps, rewrite-pair}
 use Rattle.rules.specs.Copies.{order-by}
@@ -29,7 +29,7 @@ module _ (beginning : Beginning) (img : List ℕ) (r : Reading) (h : Invariant b
 
   copy0-read : (block img (s .spt0) ≡ r .table) × (table-stands s (length first) (block img (s .spt0)) ≡ true)
   copy0-read =
-      equal-read 4 (table-stands s (length first)) (block img (s .spt0)) (block img (s .spt1)) (r .table)
+      equal-read (table-stands s (length first)) (block img (s .spt0)) (block img (s .spt1)) (r .table)
       (h .reads-table) (equal .0)
 
   spt0-inside : s .spt0 + block-size ≤ length img
@@ -83,7 +83,7 @@ module _ (beginning : Beginning) (img : List ℕ) (r : Reading) (h : Invariant b
             → Reads (table-pair beginning) img′ (block img (s .spt0)) ⊎ Reads (table-pair beginning) img′ b
             → Invariant beginning img′ r ⊎ Invariant beginning img′ after
         which only (inl e) =
-            inl (with-new-tables beginning img r h img′ only (r .table) (e ∙ ap given (copy0-read .0))
+            inl (with-new-tables beginning img r h img′ only (r .table) (e ∙ ap some (copy0-read .0))
             (h .cpb0-there) (h .cpb1-there) (r .boot) (h .boots))
         which only (inr e) = inr (after-holds img′ only e)
 
@@ -102,7 +102,7 @@ module _ (beginning : Beginning) (img : List ℕ) (r : Reading) (h : Invariant b
     end-holds : Invariant beginning end after
     end-holds =
         after-holds end end-changes
-        (rw (both-new .0) (first-read 4 (table-stands s (length first)) b (block end (s .spt1)) (new .stands)))
+        (rw (both-new .0) (first-read (table-stands s (length first)) b (block end (s .spt1)) (new .stands)))
 
     end-equal : BothEqual beginning end
     end-equal =

@@ -1,6 +1,6 @@
 -- `table::header_is_right` meets its contract. Assumes nothing.
 use borrow.Author.Needs.{needs}
-use Rattle.rules.specs.Table.{header-right}
+use Rattle.rules.specs.Table.{magic-right, header-right}
 use Rattle.table.proofs.header_is_right.Statement.{statement}
 use Rattle.table.proofs.header_is_right.Tie as tie
 
@@ -11,7 +11,7 @@ le32-requires-2 : tie.Need-le32-requires-2
 le32-requires-2 c κs = search needs
 
 returns : tie.Need-returns
-unfolding header-right
+unfolding header-right magic-right
 returns c = rw (c .before .le32 .ensures .0, c .le322 .ensures .0)
 
 pub header-is-right-spec : {M : Type 1} → statement M

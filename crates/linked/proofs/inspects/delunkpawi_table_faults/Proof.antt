@@ -1,0 +1,65 @@
+-- `delunkpawi_table_faults` answers with the faults of both table copies. Assumes nothing.
+use mathlib.Core.Path.{sym, ap, _∙_}
+use borrow.Author.Needs.{needs}
+use Rattle.reading.specs.Answers.{faulted}
+use Rattle.linked.proofs.Numbered.{number-refused, kept-refused, number-given, kept-given}
+use Rattle.linked.proofs.inspects.delunkpawi_table_faults.Statement.{statement}
+use Rattle.linked.proofs.inspects.delunkpawi_table_faults.Tie as tie
+
+table-faults-requires : tie.Need-table-faults-requires
+table-faults-requires c κs = search needs
+
+enum-known-faults : tie.Need-enum-known-faults
+enum-known-faults c = search needs
+
+enum-known-faults-2 : tie.Need-enum-known-faults-2
+enum-known-faults-2 c = search needs
+
+returns : tie.Need-returns
+unfolding faulted
+returns c =
+    let called = c .before .before .before in
+    let a = called .before .before .args in
+    let e = sym (ap faulted (c .before .faults .given .1)) ∙ called .table-faults .ensures in (
+      number-refused e,
+      (
+        kept-refused (λ f. f .fault0 .rule) (a .rule0 .now) e,
+        (
+          kept-refused (λ f. f .fault0 .entry .0) (a .entry0 .now) e,
+          (
+            kept-refused (λ f. f .fault1 .rule) (a .rule1 .now) e,
+            kept-refused (λ f. f .fault1 .entry .0) (a .entry1 .now) e,
+          ),
+        ),
+      ),
+    )
+
+returns-2 : tie.Need-returns-2
+unfolding faulted
+returns-2 c =
+    let told = c .before .before .before .before .before in
+    let called = told .before .before in
+    let a = called .before .before .args in
+    let e = sym (ap faulted (told .faults2 .given .1)) ∙ called .table-faults .ensures in (
+      number-given e,
+      (
+        kept-given (λ f. f .fault0 .rule) (a .rule0 .now) e,
+        (
+          kept-given (λ f. f .fault0 .entry .0) (a .entry0 .now) e,
+          (
+            kept-given (λ f. f .fault1 .rule) (a .rule1 .now) e,
+            kept-given (λ f. f .fault1 .entry .0) (a .entry1 .now) e,
+          ),
+        ),
+      ),
+    )
+
+pub delunkpawi-table-faults-spec : {M : Type 1} → statement M
+delunkpawi-table-faults-spec =
+    tie.close
+    (tie.spec
+    table-faults-requires
+    enum-known-faults
+    enum-known-faults-2
+    returns
+    returns-2)

@@ -1,0 +1,83 @@
+-- `table::faults::earlier_keep` meets its contract. The loop's invariant: the entry keeps the rule with all earlier ones
+-- if it does with those that are left. Assumes nothing.
+use mathlib.Core.Path.{_≡_, sym, _∙_}
+use mathlib.Core.Bool.{Bool}
+use Prim.Native.Nat.{_≤_}
+use native.Mathlib.Omega.{arith}
+use borrow.Author.Needs.{needs}
+use Rattle.rules.specs.Lists.{all}
+use Rattle.rules.specs.Table.{Entry}
+use Rattle.walks.specs.Entries.{entry-at}
+use Rattle.walks.proofs.Joined.{failed, passed}
+use Rattle.walks.proofs.Loops.{all-fails, all-goes}
+use Rattle.table.specs.declared.PairRule.{PairRule}
+use Rattle.table.specs.Inner.Rules.{both-keep}
+use Rattle.table.specs.Inner.Faults.{entries-before}
+use Rattle.table.proofs.FaultFound.{before-down}
+use Rattle.table.proofs.faults.earlier_keep.Statement.{statement}
+use Rattle.table.proofs.faults.earlier_keep.Tie as tie
+
+-- keeps the rule with this entry
+abbrev with-this : PairRule → Entry → Entry → Bool
+with-this rule e d = both-keep rule d e
+
+abbrev Inv-loop : tie.InvT-loop
+Inv-loop rule table e k₀ k =
+    (k ≤ e .0)
+    × (all (with-this rule (entry-at table (e .0))) (entries-before table (e .0))
+    ≡ all (with-this rule (entry-at table (e .0))) (entries-before table k))
+
+abbrev μ-loop : tie.MeasureT-loop
+μ-loop rule table e k₀ k = k
+
+loop-holds : tie.Need-loop-holds Inv-loop μ-loop
+loop-holds c = search needs
+
+sub-k : tie.Need-sub-k Inv-loop μ-loop
+sub-k c = search needs
+
+pair-keeps-requires : tie.Need-pair-keeps-requires Inv-loop μ-loop
+pair-keeps-requires c κs = search needs
+
+returns : tie.Need-returns Inv-loop μ-loop
+returns c =
+    let at = c .before .before .before in
+    let a = at .before .before .args in
+    let down = before-down (a .table .now) (at .loop .k) (omega arith) in
+    sym
+    (at .loop .inv .1
+    ∙ all-fails (with-this (a .rule) (entry-at (a .table .now) (a .e .0))) down
+    (failed (c .before .pair-keeps .ensures) (c .if1 .taken)))
+
+loop-less : tie.Need-loop-less Inv-loop μ-loop
+loop-less c = search needs
+
+loop-again : tie.Need-loop-again Inv-loop μ-loop
+loop-again c =
+    let at = c .before .before .before in
+    let a = at .before .before .args in
+    let down = before-down (a .table .now) (at .loop .k) (omega arith) in
+    let goes = all-goes (with-this (a .rule) (entry-at (a .table .now) (a .e .0))) down
+    (passed (c .before .pair-keeps .ensures) (c .if1 .left)) in
+    (omega arith, at .loop .inv .1 ∙ goes)
+
+returns-2 : tie.Need-returns-2 Inv-loop μ-loop
+unfolding all entries-before
+returns-2 c =
+    let at = c .before in
+    let z : at .loop .k ≡ 0 = omega arith in
+    sym (rw z at (at .loop .inv .1))
+
+pub earlier-keep-spec : {M : Type 1} → statement M
+earlier-keep-spec =
+    tie.close
+    (tie.spec
+    Inv-loop
+    μ-loop
+    loop-holds
+    sub-k
+    pair-keeps-requires
+    returns
+    loop-less
+    loop-again
+    returns-2)

@@ -1,0 +1,151 @@
+-- `table::faults::entries_fault` meets its contract: one case for each of rules 3 to 7, and one for the rest. Assumes
+-- nothing.
+use mathlib.Core.Path.{_≡_, sym, _∙_}
+use mathlib.Core.Bool.{true}
+use mathlib.Core.List.{List}
+use borrow.Author.Needs.{needs}
+use Rattle.rules.specs.Lists.{all, pairwise}
+use Rattle.rules.specs.Table.{Entry, rows, name-right, names-differ, range-aligned, range-inside}
+use Rattle.walks.proofs.Joined.{failed, passed}
+use Rattle.table.specs.Inner.Rules.{keeps, both-keep}
+use Rattle.table.specs.Inner.Faults.{passes}
+use Rattle.table.proofs.FaultFound.{fault-3, fault-4, fault-5, fault-6, fault-7, fault-of-six}
+use Rattle.table.proofs.faults.entries_fault.Statement.{statement}
+use Rattle.table.proofs.faults.entries_fault.Tie as tie
+
+-- the entries judged, and what each test that passed says
+abbrev judged : tie.Start → List Entry
+judged start = rows (start .args .n) (start .args .table .now)
+
+rule3 : (c : tie.Else1) → all name-right (judged (c .before .before .before)) ≡ true
+unfolding keeps
+rule3 c = passed (c .before .all-keep .ensures) (c .if1 .left)
+
+rule4 : (c : tie.Else2) → pairwise names-differ (judged (c .before .before .before .before .before)) ≡ true
+rule4 c = passed (c .before .all-differ .ensures) (c .if2 .left)
+
+rule5 : (c : tie.Else3) → all range-aligned (judged (c .before .before .before .before .before .before .before)) ≡ true
+unfolding keeps
+rule5 c = passed (c .before .all-keep2 .ensures) (c .if3 .left)
+
+rule6 : (c : tie.Else4)
+    → let start = c .before .before .before .before .before .before .before .before .before in
+    all (range-inside (start .args .len)) (judged start) ≡ true
+unfolding keeps
+rule6 c = passed (c .before .all-keep3 .ensures) (c .if4 .left)
+
+all-keep-requires : tie.Need-all-keep-requires
+all-keep-requires c κs = search needs
+
+at-entry-requires : tie.Need-at-entry-requires
+at-entry-requires c κs = search needs
+
+returns : tie.Need-returns
+unfolding keeps passes
+returns c =
+    let start = c .before .before .before .before in
+    c .at-entry .ensures
+    ∙ sym (fault-3 (start .args .setting) (judged start) (start .args .len)
+    (failed (c .before .before .all-keep .ensures) (c .before .if1 .taken)))
+
+all-differ-requires : tie.Need-all-differ-requires
+all-differ-requires c κs = search needs
+
+at-clash-requires : tie.Need-at-clash-requires
+at-clash-requires c κs = search needs
+
+returns-2 : tie.Need-returns-2
+unfolding both-keep
+returns-2 c =
+    let c3 = c .before .before .before in
+    let start = c3 .before .before .before in
+    c .at-clash .ensures
+    ∙ sym (fault-4 (start .args .setting) (judged start) (start .args .len) (rule3 c3)
+    (failed (c .before .before .all-differ .ensures) (c .before .if2 .taken)))
+
+all-keep-requires-2 : tie.Need-all-keep-requires-2
+all-keep-requires-2 c κs = search needs
+
+at-entry-requires-2 : tie.Need-at-entry-requires-2
+at-entry-requires-2 c κs = search needs
+
+returns-3 : tie.Need-returns-3
+unfolding keeps passes
+returns-3 c =
+    let c4 = c .before .before .before in
+    let c3 = c4 .before .before in
+    let start = c3 .before .before .before in
+    c .at-entry2 .ensures
+    ∙ sym (fault-5 (start .args .setting) (judged start) (start .args .len) (rule3 c3) (rule4 c4)
+    (failed (c .before .before .all-keep2 .ensures) (c .before .if3 .taken)))
+
+all-keep-requires-3 : tie.Need-all-keep-requires-3
+all-keep-requires-3 c κs = search needs
+
+at-entry-requires-3 : tie.Need-at-entry-requires-3
+at-entry-requires-3 c κs = search needs
+
+returns-4 : tie.Need-returns-4
+unfolding keeps passes
+returns-4 c =
+    let c5 = c .before .before .before in
+    let c4 = c5 .before .before in
+    let c3 = c4 .before .before in
+    let start = c3 .before .before .before in
+    c .at-entry3 .ensures
+    ∙ sym (fault-6 (start .args .setting) (judged start) (start .args .len) (rule3 c3) (rule4 c4) (rule5 c5)
+    (failed (c .before .before .all-keep3 .ensures) (c .before .if4 .taken)))
+
+all-are-apart-requires : tie.Need-all-are-apart-requires
+all-are-apart-requires c κs = search needs
+
+at-clash-requires-2 : tie.Need-at-clash-requires-2
+at-clash-requires-2 c κs = search needs
+
+returns-5 : tie.Need-returns-5
+unfolding both-keep
+returns-5 c =
+    let c6 = c .before .before .before in
+    let c5 = c6 .before .before in
+    let c4 = c5 .before .before in
+    let c3 = c4 .before .before in
+    let start = c3 .before .before .before in
+    c .at-clash2 .ensures
+    ∙ sym (fault-7 (start .args .setting) (judged start) (start .args .len) (rule3 c3) (rule4 c4) (rule5 c5) (rule6 c6)
+    (failed (c .before .before .all-are-apart .ensures) (c .before .if5 .taken)))
+
+six-fault-requires : tie.Need-six-fault-requires
+six-fault-requires c κs = search needs
+
+returns-6 : tie.Need-returns-6
+returns-6 c =
+    let c6 = c .before .before .before in
+    let c5 = c6 .before .before in
+    let c4 = c5 .before .before in
+    let c3 = c4 .before .before in
+    let start = c3 .before .before .before in
+    c .six-fault .ensures
+    ∙ sym (fault-of-six (start .args .setting) (judged start) (start .args .len) (rule3 c3) (rule4 c4) (rule5 c5) (rule6 c6)
+    (passed (c .before .before .all-are-apart .ensures) (c .before .if5 .left)))
+
+pub entries-fault-spec : {M : Type 1} → statement M
+entries-fault-spec =
+    tie.close
+    (tie.spec
+    all-keep-requires
+    at-entry-requires
+    returns
+    all-differ-requires
+    at-clash-requires
+    returns-2
+    all-keep-requires-2
+    at-entry-requires-2
+    returns-3
+    all-keep-requires-3
+    at-entry-requires-3
+    returns-4
+    all-are-apart-requires
+    at-clash-requires-2
+    returns-5
+    six-fault-requires
+    returns-6)
