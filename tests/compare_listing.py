@@ -15,9 +15,9 @@ from reference import (
     BLOCK,
     ENTRIES_AT,
     ENTRY_SIZE,
-    PLACE_COUNT,
-    PLACES_AT,
+    OFFSETS,
     SIX,
+    TODAY,
     listing,
     make_image,
     make_pointers,
@@ -102,15 +102,32 @@ def slot_starts(rows):
     return [row[1] for row in rows if row[0] not in SIX] or [0x4000]
 
 
-def some_places(rng, rows):
+def some_shape(rng):
+    """An offset and a count: today's, the last that fits, few places, or any."""
+    at = rng.choice(OFFSETS)
+    room = (BLOCK - at) // 8
+    return rng.choice([TODAY, TODAY, (at, room), (at, rng.randrange(1, min(room, 4) + 1)), (at, rng.randrange(1, room + 1))])
+
+
+def some_places(rng, rows, total):
     starts = slot_starts(rows) if rng.random() < 0.8 else [row[1] for row in rows]
-    count = rng.choice([0, 1, 2, 5, 20, 100, PLACE_COUNT])
-    lowest = rng.randrange(PLACE_COUNT - count + 1)
+    count = min(total, rng.choice([0, 1, 2, 5, 20, 100, total]))
+    lowest = rng.randrange(total - count + 1)
     held = {k: some_value(rng, starts) for k in range(lowest, lowest + count)}
-    for k in (0, PLACE_COUNT - 1):
+    for k in (0, total - 1):
         if rng.random() < 0.3:
             held[k] = some_value(rng, starts)
     return held
+
+
+def some_pointers(rng, rows, shape):
+    """A pointer block of this shape; the bytes that belong to no place may hold a slot's start."""
+    other = rng.choice([None, b"\x5a", b"\0"])
+    block = bytearray(make_pointers(some_places(rng, rows, shape[1]), shape, other))
+    for at in (shape[0] - 8, shape[0] + 8 * shape[1]):
+        if 0x18 <= at <= BLOCK - 8 and rng.random() < 0.3:
+            block[at : at + 8] = pointer(rng.choice(slot_starts(rows)))
+    return block
 
 
 class Flash:
@@ -121,10 +138,11 @@ class Flash:
         self.length = rng.choice(LENGTHS)
         self.rows, self.pointers_at = some_rows(rng, self.length)
         self.tables = [bytearray(make_table(self.rows)) for _ in range(2)]
-        pointers = make_pointers(some_places(rng, self.rows))
+        self.shape = some_shape(rng)
+        pointers = some_pointers(rng, self.rows, self.shape)
         self.blocks = [bytearray(pointers), bytearray(pointers)]
         if rng.random() < 0.3:
-            self.blocks[1] = bytearray(make_pointers(some_places(rng, self.rows)))
+            self.blocks[1] = some_pointers(rng, self.rows, rng.choice([self.shape, some_shape(rng)]))
         if rng.random() < 0.2:
             rows = [(some_name(rng) if name not in SIX else name, *rest) for name, *rest in self.rows]
             self.tables[1] = bytearray(make_table(rows))
@@ -231,7 +249,7 @@ def pointer_field(f):
 
 
 def place(f):
-    at = PLACES_AT + 8 * f.rng.randrange(PLACE_COUNT)
+    at = f.shape[0] + 8 * f.rng.randrange(f.shape[1])
     for block in f.copies(f.blocks):
         block[at : at + 8] = pointer(some_value(f.rng, slot_starts(f.rows)))
 

@@ -31,10 +31,12 @@ def sent(image, starts=(0x8000, 0x9000, 0xA000), at=0):
     return bytes(image)
 
 
+MOVED = FIXED + [(b"P1", 0x11000, 0x1000, 0), (b"P2", 0x10000, 0x1000, 0), QUARRY_SLOTS[2]]
+
+
 def moved(held):
     """Case 9: P1 moved to 0x11000 and P2 to 0x10000."""
-    slots = [(b"P1", 0x11000, 0x1000, 0), (b"P2", 0x10000, 0x1000, 0), QUARRY_SLOTS[2]]
-    return quarry(held, FIXED + slots, 73728)
+    return quarry(held, MOVED, 73728)
 
 
 def on_granules(size):
@@ -51,6 +53,13 @@ def with_entries(count):
     more = [(b"Q%d" % k, 0xB000 + 0x1000 * k, 0x1000, 0) for k in range(118)]
     table, pointers = make_table(FIXED + QUARRY_SLOTS + more, count), make_pointers((0x8000, 0x9000))
     return make_image(0xB000 + 118 * 0x1000, (table, table), (pointers, pointers))
+
+
+def shaped(shape, held, rows=None, length=65536, starts=(0x8000, 0x9000, 0xA000), second=None):
+    """An image with pointer blocks of this offset and count, and 0x5A where no place is; CPB1 may be another block."""
+    table = make_table(FIXED + QUARRY_SLOTS if rows is None else rows)
+    pointers = make_pointers(held, shape, b"\x5a")
+    return sent(make_image(length, (table, table), (pointers, second or pointers)), starts)
 
 
 def damaged(at):
@@ -74,13 +83,18 @@ IMAGES = {
     "second_copies_damaged": damaged([(0x5000, 4095), (CPB1, 4095)]),
     "middle": sent(on_granules(32768), (0x30000, 0x31000, 0x32000)),
     "wide": sent(on_granules(65536), (0x60000, 0x61000, 0x62000)),
+    "offset_0x28": shaped((0x28, 507), (0x8000, 0x9000)),
+    "one_place": shaped((4088, 1), (0x9000,)),
+    "four_places": shaped((0x20, 4), (0x8000, 0x9000, 0x8000, 0x9000)),
+    "moved_offset_2048": shaped((2048, 256), (0x10000, 0xA000, 0x11000), MOVED, 73728, MOVED_STARTS),
+    "two_shapes": shaped((0x28, 3), (0x8000, 0x9000), second=make_pointers((0xA000,))),
     "entries_127": with_entries(127),
     "entries_128": with_entries(128),
     "no_bytes": b"",
 }
 
 
-# ---- the cases of document 01, and of document 02, No. 2
+# ---- the cases of document 01, and of document 02, Nos. 2 and 9
 
 
 def title(command):
@@ -199,6 +213,33 @@ def empty_slots():
     yield run
 
 
+def other_shapes():
+    run = Run("offset 0x28, 507 places", "offset_0x28")
+    run.finish("enable", 2)
+    run.place(2)
+    run.order()
+    yield run
+    run = Run("offset 4,088, 1 place", "one_place")
+    run.finish("enable", 1)
+    run.finish("enable", 2)
+    run.finish("disable", 1)
+    run.finish("enable", 2)
+    run.order()
+    yield run
+    run = Run("offset 0x20, 4 places", "four_places")
+    run.finish("enable", 2)
+    run.place(3)
+    run.order()
+    yield run
+    run = Run("two copies of different shape", "two_shapes")
+    run.order()
+    run.finish("enable", 2)
+    run.finish("repair")
+    run.finish("enable", 2)
+    run.order()
+    yield run
+
+
 def in_order(runs):
     """By the numbers of the cases, which the headings begin with."""
     return sorted(runs, key=lambda run: int("".join(c for c in run.lines[0].split(",")[0] if c.isdigit())))
@@ -261,7 +302,8 @@ def tried(image, setting, command):
 
 
 POWER_CUTS = ["quarry_sent", "highest_506", "highest_507", "moved_sent", "moved_three"]
-POWER_CUTS += ["first_copies_damaged", "second_copies_damaged", "middle", "wide"]
+POWER_CUTS += ["first_copies_damaged", "second_copies_damaged"]
+POWER_CUTS += ["four_places", "moved_offset_2048", "two_shapes", "middle", "wide"]
 
 
 def power_cuts():
@@ -288,8 +330,9 @@ def main():
     write(
         "quarry_cases",
         ["quarry", "quarry_sent", "highest_506", "highest_507", "moved"]
-        + ["entries_127", "entries_128", "no_bytes", "last_byte_sent"],
-        [line for run in in_order(cases()) + list(empty_slots()) for line in run.lines],
+        + ["entries_127", "entries_128", "no_bytes", "last_byte_sent"]
+        + ["offset_0x28", "one_place", "four_places", "two_shapes"],
+        [line for run in in_order(cases()) + list(empty_slots()) + list(other_shapes()) for line in run.lines],
     )
     write("power_cuts", POWER_CUTS, list(power_cuts()))
 

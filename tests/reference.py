@@ -17,8 +17,8 @@ GRANULES = (4096, 32768, 65536)
 ENTRIES_AT = 0x20
 ENTRY_SIZE = 32
 ENTRY_LIMIT = 127
-PLACES_AT = 0x20
-PLACE_COUNT = 508
+OFFSETS = range(0x20, 4088 + 1, 8)
+TODAY = (0x20, 508)
 ERASED = b"\xff" * 8
 SIX = (b"BOOT_INFO", b"FACTORY_IMAGE", b"SPT0", b"SPT1", b"CPB0", b"CPB1")
 FOUR_BLOCKS = SIX[2:]
@@ -131,13 +131,28 @@ def pointers_stand(pointers):
         number(pointers[0x00:0x04]) == POINTERS_MAGIC
         and number(pointers[0x04:0x08]) == 0x18
         and number(pointers[0x08:0x0C]) == BLOCK
-        and number(pointers[0x10:0x14]) == PLACES_AT
-        and number(pointers[0x14:0x18]) == PLACE_COUNT
+        and offset(pointers) in OFFSETS
+        and 1 <= count(pointers) <= (BLOCK - offset(pointers)) // 8
     )
 
 
+def offset(pointers):
+    """Where the places begin."""
+    return number(pointers[0x10:0x14])
+
+
+def count(pointers):
+    """How many places there are."""
+    return number(pointers[0x14:0x18])
+
+
+def place_at(pointers, k):
+    """Where a place of the block is."""
+    return offset(pointers) + 8 * k
+
+
 def places(pointers):
-    return [pointers[PLACES_AT + 8 * k : PLACES_AT + 8 * k + 8] for k in range(PLACE_COUNT)]
+    return [pointers[place_at(pointers, k) : place_at(pointers, k + 1)] for k in range(count(pointers))]
 
 
 def judgement(place, starts):
@@ -295,22 +310,26 @@ def pointer(start):
 
 
 def ordered(pointers, starts, order):
-    """The pointer block with another order."""
-    front = pointers[:PLACES_AT] + b"".join(pointer(starts[slot]) for slot in reversed(order))
-    return front + b"\xff" * (BLOCK - len(front))
+    """The pointer block with another order; the bytes before the places and behind the last as they were."""
+    end = place_at(pointers, count(pointers))
+    front = pointers[: offset(pointers)] + b"".join(pointer(starts[slot]) for slot in reversed(order))
+    return front + b"\xff" * (end - len(front)) + pointers[end:]
 
 
 def enable(v, starts, order, slot):
     if order[:1] == [slot]:
         return []
     if places(v.pointers)[-1] == ERASED:
-        free = PLACE_COUNT - 1
+        free = count(v.pointers) - 1
         while free > 0 and places(v.pointers)[free - 1] == ERASED:
             free -= 1
-        at = PLACES_AT + 8 * free
+        at = place_at(v.pointers, free)
         data = pointer(starts[slot])
         return programs(v.cpb1 + at, data) + programs(v.cpb0 + at, data)
-    data = ordered(v.pointers, starts, [slot] + [s for s in order if s != slot])
+    after = [slot] + [s for s in order if s != slot]
+    if len(after) > count(v.pointers):
+        raise Refused(15)
+    data = ordered(v.pointers, starts, after)
     return rewrite(v.cpb1, data) + rewrite(v.cpb0, data)
 
 
@@ -324,7 +343,7 @@ def disable(v, starts, order, slot):
     for copy in (v.cpb1, v.cpb0):
         for k, place in enumerate(places(v.pointers)):
             if place == pointer(start):
-                steps += programs(copy + PLACES_AT + 8 * k, bytes(8))
+                steps += programs(copy + place_at(v.pointers, k), bytes(8))
     return steps
 
 
@@ -419,12 +438,15 @@ def make_table(rows, count=None, version=0, magic=TABLE_MAGIC):
     return (head + b"".join(make_entry(*row) for row in rows)).ljust(BLOCK, b"\0")
 
 
-def make_pointers(held):
-    """A pointer block: `held` gives the values of the lowest places, or of places by number."""
+def make_pointers(held, shape=TODAY, other=None):
+    """A pointer block: `held` gives the values of the lowest places, or of places by number; `shape` its offset and
+    count. Bytes that belong to no place are `other`, or, where none is given, 0 before the places and 0xFF behind."""
     held = held if isinstance(held, dict) else dict(enumerate(held))
-    fields = (POINTERS_MAGIC, 0x18, BLOCK, 0, PLACES_AT, PLACE_COUNT, 0, 0)
-    body = [pointer(held[k]) if k in held else ERASED for k in range(PLACE_COUNT)]
-    return b"".join(field.to_bytes(4, "little") for field in fields) + b"".join(body)
+    at, count = shape
+    head = b"".join(field.to_bytes(4, "little") for field in (POINTERS_MAGIC, 0x18, BLOCK, 0, at, count))
+    body = b"".join(pointer(held[k]) if k in held else ERASED for k in range(count))
+    before, behind = (b"\0", b"\xff") if other is None else (other, other)
+    return (head.ljust(at, before) + body).ljust(BLOCK, behind)
 
 
 def make_image(length, tables, pointers, tables_at=(0x4000, 0x5000), pointers_at=(0x6000, 0x7000)):

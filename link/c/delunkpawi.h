@@ -25,6 +25,7 @@
  *   12  another image length than at the start, or a step outside the image
  *   13  the lent row is shorter than the boot order
  *   14  the slot to enable is empty: its first 4,096 bytes are all 0xFF
+ *   15  the pointer block has no place for one slot more in the boot order
  *   90  the job's buffer has another length than DELUNKPAWI_JOB_SIZE, or holds no job
  *   91  the bytes lent for a name are too few
  *   92  no such entry
@@ -110,7 +111,8 @@ uint8_t delunkpawi_place(const uint8_t *image, size_t image_length, size_t granu
 
 size_t delunkpawi_job_size(void);
 
-/* The slot comes first in the boot order. Its first 4,096 bytes are read too: 14 if they are all 0xFF. */
+/* The slot comes first in the boot order. Its first 4,096 bytes are read too: 14 if they are all 0xFF. 15 where each place
+ * of the pointer block has a slot of its own, and this slot has none. */
 uint8_t delunkpawi_enable(const uint8_t *image, size_t image_length, size_t granule, size_t spt0, size_t spt1,
                           uint32_t slot, uint8_t *job, size_t job_length);
 

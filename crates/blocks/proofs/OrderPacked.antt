@@ -11,8 +11,7 @@ use Rattle.rules.specs.Lists.{without}
 use Rattle.rules.specs.Table.{entry-count, entries, slots, slot-starts, starts}
 use Rattle.rules.specs.Pointers.{order}
 use Rattle.rules.specs.Commands.{pointers-of}
-use Rattle.rules.proofs.Order.OnceEach.{Once, once-order, once-first, once-length}
-use Rattle.walks.specs.Entries.{most-entries}
+use Rattle.rules.proofs.Order.OnceEach.{Once, once-order, once-first, once-length, order-length}
 use Rattle.slots.proofs.RowsOf.{few-slots-counted}
 use Rattle.places.proofs.BootOrder.{order-fits}
 use Rattle.blocks.specs.Inner.Walked.{SlotNumbers}
@@ -71,9 +70,9 @@ module _ (t vs : List ℕ) where
   unfolding starts
   few-in-order = omega (arith, order-fits (entries t) vs, few-slots-counted t)
 
-  pub numbers-of-order : entry-count t ≤ most-entries → SlotNumbers (length (slots (entries t))) (order (starts t) vs)
-  numbers-of-order few = record {
-    few = omega (arith, few-in-order);
+  pub numbers-of-order : SlotNumbers (length (slots (entries t))) (length vs) (order (starts t) vs)
+  numbers-of-order = record {
+    few = order-length (starts t) vs;
     below = λ i l. rw (← same-length) (below-at (length (starts t)) (order (starts t) vs) i (once-order (starts t) vs) l);
   }
 

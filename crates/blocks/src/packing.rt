@@ -6,13 +6,15 @@ use places::Places;
 use rules::SlotNo;
 use slots::Rows;
 ghost use mathlib.Core.Path.{_≡_};
+ghost use mathlib.Core.Bool.{true};
 ghost use mathlib.Core.List.{[], _∷_};
 ghost use Prim.Native.Nat.{_<_};
 ghost use lib.ListN.{length, getD};
 ghost use Rattle.rules.specs.Lists.{without};
 ghost use Rattle.rules.specs.Table.{entries, slots, starts};
+ghost use Rattle.rules.specs.Pointers.{place-count};
 ghost use Rattle.rules.specs.Copies.{order-by};
-ghost use Rattle.rules.specs.Commands.{filled, pointers-of};
+ghost use Rattle.rules.specs.Commands.{filled, pointers-of, enough-places};
 ghost use Rattle.places.specs.Inner.PlacesOf.{HasPlaces};
 ghost use Rattle.blocks.specs.Inner.Walked.{Readable, SlotNumbers, packed};
 
@@ -29,6 +31,18 @@ pub fn order_without(t: &[u8], rows: Rows, p: &[u8], places: Places, slot: SlotN
     pack_without(t, rows, p, places, &row[..len], slot)
 }
 
+// The block has a place for each slot of the order with this one in front, as a block with a place for each entry has.
+pub fn enough_places(t: &[u8], rows: Rows, p: &[u8], places: Places, slot: SlotNo) -> bool
+    requires { ⌜ Readable (now t) rows (now p) places × (slot .0 < length (slots (entries (now t)))) ⌝ }
+    ensures { λ r. ⌜ r ≡ enough-places (starts (now (t .entry))) (now (p .entry)) (slot .0) ⌝ }
+{
+    if rows.count <= places.count {
+        return true;
+    }
+    let others = order_without(t, rows, p, places, slot);
+    1 + others.count <= places.count
+}
+
 // The same with the slot, which starts there, in front of the order: its pointer is the last.
 pub fn order_with_first(
     t: &[u8],
@@ -40,7 +54,7 @@ pub fn order_with_first(
 ) -> [u8; 4096]
     requires { ⌜
         Readable (now t) rows (now p) places
-        × ((slot .0 < length (slots (entries (now t)))) × (start ≡ getD (starts (now t)) (slot .0) 0))
+        × ((enough-places (starts (now t)) (now p) (slot .0) ≡ true) × (start ≡ getD (starts (now t)) (slot .0) 0))
         ⌝ }
     ensures { λ r. ⌜
         r ≡ filled (now (p .entry)) (pointers-of (starts (now (t .entry)))
@@ -63,7 +77,10 @@ fn pack_without(
     order: &[u32],
     slot: SlotNo,
 ) -> Packed
-    requires { ⌜ Readable (now t) rows (now p) places × SlotNumbers (length (slots (entries (now t)))) (now order) ⌝ }
+    requires { ⌜
+        Readable (now t) rows (now p) places
+        × SlotNumbers (length (slots (entries (now t)))) (place-count (now p)) (now order)
+        ⌝ }
     ensures { λ r. ⌜
         r ≡ packed (now (p .entry)) (pointers-of (starts (now (t .entry)))
         (without (slot .0) (now (order .entry))))

@@ -16,7 +16,7 @@ use Rattle.rules.specs.Table.{entry-count, entries, rows, slots, starts}
 use Rattle.rules.specs.Pointers.{places}
 use Rattle.rules.specs.Copies.{view, agree-by, order-by, boot-order}
 use Rattle.rules.specs.Readers.{slot-row, slot-there}
-use Rattle.rules.specs.Commands.{Command, enable, disable, rename, repair, slot-empty, enable-steps, disable-steps, rename-steps, repair-steps, giving, name-allowed, name-free, job}
+use Rattle.rules.specs.Commands.{Command, enable, disable, rename, repair, slot-empty, enough-places, enable-steps, disable-steps, rename-steps, repair-steps, giving, name-allowed, name-free, job}
 use Rattle.rules.specs.declared.Step.{Step}
 use Rattle.rules.specs.declared.View.{View}
 use Rattle.rules.proofs.Lists.Tests.{unless-given}
@@ -133,17 +133,21 @@ module _ (s : Setting) (img : List ℕ) (v : View) (h : view s img ≡ given v) 
         unfolding job unless
         enable-refused-14 e = passed-by _ ∙ rw (← et, ← ea, e)
 
-        pub enable-started : slot-empty img a ≡ false
-            → (p : List ℕ) (r : Begun) (j : Job)
-            → p ≡ block img (v .pointers)
-            → r ≡ started j
-            → j ≡ enable-job (length img) (s .granule) (v .cpb0) (v .cpb1) (starts t) p k
-            → r ≡ returned (job-by s img v (enable k))
-        unfolding job job-for unless
-        enable-started f p r j ep er ej =
-            returns-started s img v (enable k) r j
-            (enable-steps (v .cpb0) (v .cpb1) (starts (block img (v .table))) (block img (v .pointers)) k) er
-            (ej ∙ rw (et, ep)) (passed-by _ ∙ rw (← et, ← ea, f))
+        module _ (f : slot-empty img a ≡ false) (p : List ℕ) (ep : p ≡ block img (v .pointers)) where
+          pub enable-refused-15 : enough-places (starts t) p k ≡ false → job s img v (enable k) ≡ refused (numbered 15)
+          unfolding job unless
+          enable-refused-15 full = passed-by _ ∙ rw (← et, ← ea, f, ← ep, full)
+
+          pub enable-started : enough-places (starts t) p k ≡ true
+              → (r : Begun) (j : Job)
+              → r ≡ started j
+              → j ≡ enable-job (length img) (s .granule) (v .cpb0) (v .cpb1) (starts t) p k
+              → r ≡ returned (job-by s img v (enable k))
+          unfolding job job-for unless
+          enable-started enough r j er ej =
+              returns-started s img v (enable k) r j
+              (enable-steps (v .cpb0) (v .cpb1) (starts (block img (v .table))) (block img (v .pointers)) k) er
+              (ej ∙ rw (et, ep)) (passed-by _ ∙ rw (← et, ← ea, f, ← ep, enough))
 
       module _ (t p : List ℕ) (et : t ≡ block img (v .table)) (ep : p ≡ block img (v .pointers)) where
         module _ (ks : List ℕ) (ek : ks ≡ giving (starts t) k 0 (places p)) where

@@ -16,12 +16,12 @@ use Rattle.rules.specs.Table.{entries, starts}
 use Rattle.rules.specs.Pointers.{place-count, places, order, pointers-stand}
 use Rattle.rules.specs.Copies.{view, agree-by, boot-order}
 use Rattle.rules.specs.Readers.{slot-row, slot-there}
-use Rattle.rules.specs.Commands.{Command, enable, disable, rename, repair, reorder-steps, free-place, is-first, into-place, into-places, append-steps, enable-steps, giving, clear-steps, half-cleared-names, disable-steps, has-already, rename-steps, name-allowed, name-free, job, start}
+use Rattle.rules.specs.Commands.{Command, enable, disable, rename, repair, reorder-steps, free-place, is-first, into-place, into-places, append-steps, enable-steps, giving, clear-steps, half-cleared-names, disable-steps, has-already, rename-steps, name-allowed, name-free, enough-places, job, start}
 use Rattle.rules.specs.declared.Step.{Step}
 use Rattle.rules.specs.declared.View.{View}
 use Rattle.rules.proofs.Lists.Tests.{by-cases, given-inj, unless-given}
 use Rattle.rules.proofs.EmptySlots.{not-empty-if-given}
-use Rattle.rules.proofs.Pointers.PointerHeader.{layout}
+use Rattle.rules.proofs.Pointers.PointerHeader.{places-fit}
 use Rattle.blocks.specs.Made.{Lists}
 use Rattle.blocks.proofs.JobSteps.{rewrites-lists, no-steps-lists, pair-lists, places-lists}
 use Rattle.blocks.proofs.Walking.{giving-few, giving-below, length-places}
@@ -46,7 +46,7 @@ module _ (len g c0 c1 : ℕ) (starts p : List ℕ) (k : ℕ) (stand : pointers-s
       (λ f.
       by-cases (ltb (free-place starts (places p)) (place-count p))
       (λ t.
-      let room = layout p stand .1 in
+      let room = places-fit p stand .at-most-508 in
       let free = ltb-true (free-place starts (places p)) (place-count p) t in
       rw (f, t, ← one-place c1, ← one-place c0)
       (places-lists len g _ c1 c0 (free-place starts (places p) ∷ []) _ (omega arith) (omega arith, tt)))
@@ -58,7 +58,7 @@ module _ (len g c0 c1 : ℕ) (starts p : List ℕ) (k : ℕ) (stand : pointers-s
       by-cases (half-cleared-names starts (getD starts k 0))
       (λ t. rw t (pair-lists len g c0 c1 _))
       (λ f.
-      let room = layout p stand .1 in
+      let room = places-fit p stand .at-most-508 in
       rw f
       (places-lists len g _ c1 c0 (giving starts k 0 (places p)) _
       (omega (arith, giving-few starts k 0 (places p), length-places p))
@@ -91,7 +91,9 @@ module _ (s : Setting) (img : List ℕ) (v : View) (h : view s img ≡ given v) 
   job-lists (enable k) ss e =
       let start = getD (starts (block img (v .table))) k 0 in
       let (_, e14) = not-empty-if-given img start _ ss (after-slot k _ ss e) in
-      subst (ForImage (enable k)) (given-inj _ ss e14) (enable-lists _ _ _ _ _ _ k (located s img v h .stand))
+      let enough = enough-places (starts (block img (v .table))) (block img (v .pointers)) k in
+      let (_, e15) = unless-given 15 enough _ ss e14 in
+      subst (ForImage (enable k)) (given-inj _ ss e15) (enable-lists _ _ _ _ _ _ k (located s img v h .stand))
   job-lists (disable k) ss e =
       let (_, e8) = unless-given 8 (member k (boot-order img v)) _ ss (after-slot k _ ss e) in
       subst (ForImage (disable k)) (given-inj _ ss e8) (disable-lists _ _ _ _ _ _ k (located s img v h .stand))

@@ -17,17 +17,17 @@ use rules::SlotNo;
 use rules::View;
 use slots::Rows;
 ghost use mathlib.Core.Path.{_≡_};
-ghost use Prim.Native.Nat.{_<_};
-ghost use lib.ListN.{length, getD};
+ghost use mathlib.Core.Bool.{true};
+ghost use lib.ListN.{getD};
 ghost use Rattle.rules.specs.Answers.{given};
-ghost use Rattle.rules.specs.Table.{entries, slots, starts};
+ghost use Rattle.rules.specs.Table.{starts};
 ghost use Rattle.rules.specs.Copies.{view};
-ghost use Rattle.rules.specs.Commands.{enable};
+ghost use Rattle.rules.specs.Commands.{enough-places, enable};
 ghost use Rattle.blocks.specs.Inner.Walked.{Readable};
 ghost use Rattle.commands.specs.JobFor.{enable-job};
 ghost use Rattle.commands.specs.Begins.{returned, job-by};
 
-// Refusals 6, 7 and 14, or the job of enable.
+// Refusals 6, 7, 14 and 15, or the job of enable.
 pub fn enable_by(image: &[u8], setting: Setting, v: View, slot: SlotNo) -> Begun
     requires { ⌜ view setting (now image) ≡ given v ⌝ }
     ensures { λ r. ⌜
@@ -52,6 +52,13 @@ pub fn enable_by(image: &[u8], setting: Setting, v: View, slot: SlotNo) -> Begun
             let pointers_at = v.pointers;
             let p = fields::block_at(image, pointers_at);
             let places = places::places_of(p);
+            if !packing::enough_places(t, rows, p, places, slot) {
+                return refusals::refuse(Refusal {
+                    number: 15,
+                    fault0: NO_FAULT,
+                    fault1: NO_FAULT,
+                });
+            }
             let at0 = v.cpb0 as u32;
             let at1 = v.cpb1 as u32;
             let to = Target {
@@ -77,7 +84,7 @@ fn enable_job(
     start: u64,
 ) -> Job
     requires { ⌜
-        (Readable (now t) rows (now p) places × (slot .0 < length (slots (entries (now t)))))
+        (Readable (now t) rows (now p) places × (enough-places (starts (now t)) (now p) (slot .0) ≡ true))
         × (start ≡ getD (starts (now t)) (slot .0) 0)
         ⌝ }
     ensures { λ r. ⌜

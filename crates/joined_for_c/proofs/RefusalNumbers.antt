@@ -62,7 +62,8 @@ view-not-zero s img =
 job-not-zero : (s : Setting) (img : List ℕ) (v : View) (c : Command) → NotZero (job s img v c)
 unfolding job
 job-not-zero s img v (enable k) =
-    unless-not-zero _ _ _ _ (omega arith) (unless-not-zero _ _ _ _ (omega arith) (unless-not-zero _ _ _ _ (omega arith) tt))
+    unless-not-zero _ _ _ _ (omega arith)
+    (unless-not-zero _ _ _ _ (omega arith) (unless-not-zero _ _ _ _ (omega arith) (unless-not-zero _ _ _ _ (omega arith) tt)))
 job-not-zero s img v (disable k) =
     unless-not-zero _ _ _ _ (omega arith) (unless-not-zero _ _ _ _ (omega arith) (unless-not-zero _ _ _ _ (omega arith) tt))
 job-not-zero s img v (rename k n) =

@@ -1,10 +1,11 @@
 -- The job that a start returns is within what the types of its fields can hold. Assumes nothing.
 use mathlib.Core.Path.{_≡_, refl, _∙_}
+use mathlib.Core.Bool.{true, not}
 use mathlib.Core.List.{List, [], _∷_, reverse}
 use Prim.Native.Nat.{ℕ, _+_, _^_, _≤_, _<_}
 use native.Mathlib.Omega.{arith}
 use lib.Dec.{eqb, ltb}
-use borrow.Author.Tests.{ltb-true}
+use borrow.Author.Tests.{ltb-true, leb-true}
 use lib.ListN.{length, getD, length-map, length-reverse}
 use Rattle.rules.specs.Lists.{without}
 use Rattle.rules.specs.Bytes.{bytes-of, block, block-size}
@@ -14,15 +15,15 @@ use Rattle.rules.specs.Table.{entries, slots, starts}
 use Rattle.rules.specs.Pointers.{place-offset, place-count, places, order}
 use Rattle.rules.specs.Copies.{view, agree-by}
 use Rattle.rules.specs.Readers.{slot-row, slot-there}
-use Rattle.rules.specs.Commands.{Command, enable, disable, rename, repair, filled, pointers-of, free-place, is-first, giving, half-cleared-names, has-already, put-name, name-allowed, job}
+use Rattle.rules.specs.Commands.{Command, enable, disable, rename, repair, filled, pointers-of, free-place, is-first, giving, half-cleared-names, has-already, put-name, name-allowed, slot-empty, enough-places, job}
 use Rattle.rules.specs.declared.Step.{Step}
 use Rattle.rules.specs.declared.View.{View}
 use Rattle.rules.proofs.Lists.Tests.{by-cases, unless-given}
 use Rattle.rules.proofs.Lists.Words.{length-bytes-of}
 use Rattle.rules.proofs.Steps.Frame.{length-block}
-use Rattle.rules.proofs.Order.OnceEach.{without-length}
+use Rattle.rules.proofs.Order.OnceEach.{order-length, without-length}
 use Rattle.rules.proofs.Table.Standing.{length-entries}
-use Rattle.rules.proofs.Pointers.PointerHeader.{layout, places-fit}
+use Rattle.rules.proofs.Pointers.PointerHeader.{places-fit}
 use Rattle.rules.proofs.Pointers.Filling.{length-filled}
 use Rattle.rules.proofs.Table.PutName.{put-length}
 use Rattle.rules.proofs.Table.Renaming.{slot-row-found, allowed}
@@ -30,7 +31,6 @@ use Rattle.reading.proofs.Seen.{seen, blocks-inside}
 use Rattle.jobs.specs.Jobs.{place-room}
 use Rattle.blocks.specs.Made.{no-job}
 use Rattle.blocks.proofs.Walking.{giving-few, length-places}
-use Rattle.blocks.proofs.OrderPacked.{few-in-order}
 use Rattle.reading.specs.Inner.Located.{Located}
 use Rattle.commands.specs.JobFor.{reorder-job, in-places-job, enable-job, disable-job, rename-job, repaired, repair-job, job-for}
 use Rattle.commands.specs.Begins.{returned, job-by, start-result}
@@ -70,28 +70,25 @@ module _ (s : Setting) (img : List ℕ) (v : View) (h : view s img ≡ given v) 
 
   -- ---- enable and disable
 
-  in-order : length (order (starts t) (places p)) ≤ 127
-  in-order = omega (arith, few-in-order t (places p), l .count-right)
-
-  reorder-typed : (o : List ℕ) → length o ≤ 508
+  reorder-typed : (o : List ℕ) → length o ≤ place-count p
       → Typed (reorder-job (length img) (s .granule) (v .cpb0) (v .cpb1) (starts t) p o)
   unfolding reorder-job
   reorder-typed o few =
       let vs = pointers-of (starts t) o in
       pair-typed (length img) (s .granule) short fine (v .cpb0) (v .cpb1) cpb0-small cpb1-small (filled p vs)
       (length-filled p (length-block img (v .pointers) (l .pointers-inside)) (places-fit p (l .stand)) vs
-      (omega (arith, length-pointers (starts t) o, layout p (l .stand) .1)))
+      (rw (length-pointers (starts t) o) few))
 
   in-places-typed : (ks : List ℕ) (w : ℕ) → length ks ≤ place-room
       → Typed (in-places-job (length img) (s .granule) (v .cpb0) (v .cpb1) p ks (bytes-of 8 w))
   unfolding in-places-job
   in-places-typed ks w room =
       places-typed (length img) (s .granule) short fine (v .cpb0) (v .cpb1) cpb0-small cpb1-small (place-offset p) ks
-      (bytes-of 8 w) (omega (arith, layout p (l .stand) .0)) room (length-bytes-of 8 w)
+      (bytes-of 8 w) (omega (arith, places-fit p (l .stand) .in-block)) room (length-bytes-of 8 w)
 
-  enable-typed : (k : ℕ) → Fits (enable k)
-  unfolding job-for enable-job
-  enable-typed k =
+  enable-typed : (k : ℕ) → enough-places (starts t) p k ≡ true → Fits (enable k)
+  unfolding job-for enable-job enough-places
+  enable-typed k enough =
       by-cases (is-first k (order (starts t) (places p)))
       (λ q. rw q (no-steps-typed (length img) (s .granule) short fine))
       (λ q.
@@ -100,7 +97,7 @@ module _ (s : Setting) (img : List ℕ) (v : View) (h : view s img ≡ given v) 
       (λ r.
       rw (q, r)
       (reorder-typed (k ∷ without k (order (starts t) (places p)))
-      (omega (arith, in-order, without-length k (order (starts t) (places p)))))))
+      (leb-true (length (k ∷ without k (order (starts t) (places p)))) (place-count p) enough))))
 
   disable-typed : (k : ℕ) → Fits (disable k)
   unfolding job-for disable-job
@@ -109,11 +106,16 @@ module _ (s : Setting) (img : List ℕ) (v : View) (h : view s img ≡ given v) 
       (λ q.
       rw q
       (reorder-typed (without k (order (starts t) (places p)))
-      (omega (arith, in-order, without-length k (order (starts t) (places p))))))
+      (omega (
+        arith,
+        order-length (starts t) (places p),
+        length-places p,
+        without-length k (order (starts t) (places p)),
+      ))))
       (λ q.
       rw q
       (in-places-typed (giving (starts t) k 0 (places p)) 0
-      (omega (arith, giving-few (starts t) k 0 (places p), length-places p, layout p (l .stand) .1))))
+      (omega (arith, giving-few (starts t) k 0 (places p), length-places p, places-fit p (l .stand) .at-most-508))))
 
   -- ---- rename
 
@@ -154,7 +156,11 @@ module _ (s : Setting) (img : List ℕ) (v : View) (h : view s img ≡ given v) 
 
   job-typed : (c : Command) (ss : List Step) → job s img v c ≡ given ss → Fits c
   unfolding job slot-there
-  job-typed (enable k) ss e = enable-typed k
+  job-typed (enable k) ss e =
+      let (_, e7) = unless-given 6 (agree-by s img v) _ ss e in
+      let (_, e14) = unless-given 7 (ltb k (length (slots (entries t)))) _ ss e7 in
+      let (_, e15) = unless-given 14 (not (slot-empty img (getD (starts t) k 0))) _ ss e14 in
+      enable-typed k (unless-given 15 (enough-places (starts t) p k) _ ss e15 .0)
   job-typed (disable k) ss e = disable-typed k
   job-typed (rename k n) ss e =
       let (_, e7) = unless-given 6 (agree-by s img v) _ ss e in

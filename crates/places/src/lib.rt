@@ -6,28 +6,30 @@ use rules::PlaceNo;
 use rules::SlotNo;
 use slots::Rows;
 ghost use mathlib.Core.Path.{_≡_};
-ghost use mathlib.Core.Bool.{true, false};
-ghost use Prim.Native.Nat.{_+_, _≤_, _<_};
+ghost use mathlib.Core.Bool.{false};
+ghost use Prim.Native.Nat.{_+_, _-_, _/_, _≤_, _<_};
 ghost use lib.ListN.{length};
 ghost use Rattle.rules.specs.Bytes.{block, block-size};
 ghost use Rattle.rules.specs.Table.{starts};
-ghost use Rattle.rules.specs.Pointers.{place-offset, place-count, pointers-stand, all-ones, judged};
+ghost use Rattle.rules.specs.Pointers.{place-offset, place-count, offset-right, fits-room, pointers-stand, all-ones, judged};
 ghost use Rattle.slots.specs.Inner.RowsOf.{HasRows};
 ghost use Rattle.places.specs.Inner.StandingPointers.{StandingPointers};
 ghost use Rattle.places.specs.Inner.PlacesOf.{free-from, places-of, HasPlaces};
 ghost use Rattle.places.specs.Inner.Added.{held-above, added-at, place-value};
 
-// The five named fields of a block that stands: the magic, the header's size, the block's size, where the places
-// begin and how many there are.
+// The three named fields of a block that stands and are fixed: the magic, the header's size and the block's size.
 const MAGIC: u64 = 0x57789609;
 
 const HEADER_SIZE: u64 = 0x18;
 
 const BLOCK_SIZE: u64 = fields::BLOCK_SIZE as u64;
 
-const PLACE_OFFSET: usize = 0x20;
+// Where the places may begin, first and last: at a multiple of a pointer's size.
+const FIRST_OFFSET: u64 = 0x20;
 
-const PLACE_COUNT: usize = 508;
+const LAST_OFFSET: u64 = 4088;
+
+const POINTER_SIZE: u64 = 8;
 
 // The value of an erased place.
 const ALL_ONES: u64 = 0xFFFF_FFFF_FFFF_FFFF;
@@ -65,8 +67,32 @@ pub fn block_stands(p: &[u8]) -> bool
     (fields::le32(p, 0x00) == MAGIC)
         & (fields::le32(p, 0x04) == HEADER_SIZE)
         & (fields::le32(p, 0x08) == BLOCK_SIZE)
-        & (fields::le32(p, 0x10) == PLACE_OFFSET as u64)
-        & (fields::le32(p, 0x14) == PLACE_COUNT as u64)
+        & offset_right(fields::le32(p, 0x10))
+        & fits_room(fields::le32(p, 0x10), fields::le32(p, 0x14))
+}
+
+// A multiple of 8 from 0x20 to 4,088.
+fn offset_right(offset: u64) -> bool
+    ensures { λ r. ⌜ r ≡ offset-right offset ⌝ }
+{
+    (offset % POINTER_SIZE == 0) & (FIRST_OFFSET <= offset) & (offset <= LAST_OFFSET)
+}
+
+// A count from 1 up to the room left.
+fn fits_room(offset: u64, count: u64) -> bool
+    ensures { λ r. ⌜ r ≡ fits-room offset count ⌝ }
+{
+    (1 <= count) & (count <= room_left(offset))
+}
+
+// How many places there is room for from an offset on; none past the block's end.
+fn room_left(offset: u64) -> u64
+    ensures { λ r. ⌜ r ≡ (block-size - offset) / 8 ⌝ }
+{
+    if BLOCK_SIZE < offset {
+        return 0;
+    }
+    (BLOCK_SIZE - offset) / POINTER_SIZE
 }
 
 // ---- the places
@@ -83,17 +109,17 @@ pub fn places_of(p: &[u8]) -> Places
 }
 
 fn place_offset(p: &[u8]) -> usize
-    requires { ⌜ pointers-stand (now p) ≡ true ⌝ }
+    requires { ⌜ StandingPointers (now p) ⌝ }
     ensures { λ r. ⌜ r ≡ place-offset (now (p .entry)) ⌝ }
 {
-    PLACE_OFFSET
+    fields::le32(p, 0x10) as usize
 }
 
 fn place_count(p: &[u8]) -> usize
-    requires { ⌜ pointers-stand (now p) ≡ true ⌝ }
+    requires { ⌜ StandingPointers (now p) ⌝ }
     ensures { λ r. ⌜ r ≡ place-count (now (p .entry)) ⌝ }
 {
-    PLACE_COUNT
+    fields::le32(p, 0x14) as usize
 }
 
 // The lowest place such that it and all above are erased; the count of places where the last is not erased.

@@ -252,6 +252,9 @@ fn main() {
     try_file(b"moved_three.img", setting);
     try_file(b"first_copies_damaged.img", setting);
     try_file(b"second_copies_damaged.img", setting);
+    try_file(b"four_places.img", setting);
+    try_file(b"moved_offset_2048.img", setting);
+    try_file(b"two_shapes.img", setting);
     let middle = Setting {
         granule: 32768,
         spt0: 0x10000,

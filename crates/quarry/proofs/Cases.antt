@@ -10,7 +10,7 @@ use Rattle.rules.specs.Table.{table-stands}
 use Rattle.rules.specs.Steps.{steps}
 use Rattle.rules.specs.Commands.{name-allowed}
 use Rattle.quarry.specs.Quarry.{quarry-setting, longer-length, longer-table}
-use Rattle.quarry.specs.Cases.{Row, holds, starred, unstarred, case-1, case-2, case-3, case-4, case-5, case-6, case-7, case-7-full, case-8, case-8-shown, case-8-inside, case-9, case-10, case-empty, case-last-byte}
+use Rattle.quarry.specs.Cases.{Row, holds, starred, unstarred, case-1, case-2, case-3, case-4, case-5, case-6, case-7, case-7-full, case-8, case-8-shown, case-8-inside, case-9, case-10, case-empty, case-last-byte, case-0x28, case-one-place, case-four-places, case-two-shapes}
 use Rattle.rules.specs.declared.Step.{Step}
 use Rattle.quarry.proofs.Opened.{rules}
 use Rattle.rules.proofs.Steps.Programming.{fast-steps, fast-is-steps}
@@ -61,6 +61,22 @@ case-last-byte-computed : holds fast-steps case-last-byte ≡ true
 unfolding rules case-last-byte
 case-last-byte-computed = refl
 
+case-0x28-computed : holds fast-steps case-0x28 ≡ true
+unfolding rules case-0x28
+case-0x28-computed = refl
+
+case-one-place-computed : holds fast-steps case-one-place ≡ true
+unfolding rules case-one-place
+case-one-place-computed = refl
+
+case-four-places-computed : holds fast-steps case-four-places ≡ true
+unfolding rules case-four-places
+case-four-places-computed = refl
+
+case-two-shapes-computed : holds fast-steps case-two-shapes ≡ true
+unfolding rules case-two-shapes
+case-two-shapes-computed = refl
+
 case-8-computed : holds fast-steps case-8 ≡ true
 unfolding rules case-8
 case-8-computed = refl
@@ -94,6 +110,10 @@ starred-computed =
       case-9-computed,
       case-empty-computed,
       case-last-byte-computed,
+      case-0x28-computed,
+      case-one-place-computed,
+      case-four-places-computed,
+      case-two-shapes-computed,
     )
 
 unstarred-computed : all (holds fast-steps) unstarred ≡ true
@@ -105,7 +125,7 @@ unstarred-computed =
 by-steps : (rs : List Row) → all (holds fast-steps) rs ≡ true → all (holds steps) rs ≡ true
 by-steps rs = subst (λ (f : ℕ → List Step → List ℕ → List ℕ). all (holds f) rs ≡ true) fast-is-steps
 
--- document 01's starred cases, and document 02's of empty slots
+-- document 01's starred cases, and document 02's of empty slots and of pointer blocks of another shape
 pub starred-hold : all (holds steps) starred ≡ true
 starred-hold = by-steps starred starred-computed
 

@@ -8,11 +8,11 @@ use lib.ListN.{take, drop, getD, length, replicate}
 use Rattle.rules.specs.Lists.{same, all}
 use Rattle.rules.specs.Bytes.{block, erased-byte}
 use Rattle.rules.specs.Answers.{Answer, refused, given}
-use Rattle.rules.specs.Pointers.{places}
+use Rattle.rules.specs.Pointers.{place-offset, places}
 use Rattle.rules.specs.Readers.{order-list}
 use Rattle.rules.specs.Commands.{Command, enable, disable, repair, start}
 use Rattle.rules.specs.Cuts.{half-done}
-use Rattle.quarry.specs.Quarry.{quarry-setting, quarry, quarry-sent, quarry-p3, quarry-used-to, quarry-moved}
+use Rattle.quarry.specs.Quarry.{quarry-setting, quarry, quarry-sent, quarry-p3, quarry-used-to, other-byte, quarry-0x28, quarry-one-place, quarry-four-places, quarry-two-shapes, quarry-moved}
 use Rattle.rules.specs.declared.Step.{Step}
 use Rattle.rules.specs.declared.Step.the-variants.{Program, Erase}
 
@@ -29,11 +29,12 @@ pub data Ending : Type 0 where
   cut-inside : ℕ → List Bool → Ending
 
 -- a command started, with what is expected of it, and its job run; the boot order expected; the value expected at a place
--- of the pointer block at an address
+-- of the pointer block at an address; the bytes expected at an address
 pub data Line : Type 0 where
   command : Command → List Expected → Ending → Line
   order-is : List ℕ → Line
   place-holds : ℕ → ℕ → ℕ → Line
+  bytes-at : ℕ → List ℕ → Line
 
 -- the image from which a case starts, and its lines, each on what the one before left
 pub record Row : Type 0 where
@@ -49,9 +50,9 @@ quarry-cpb0 = 0x6000
 abbrev pub quarry-cpb1 : ℕ
 quarry-cpb1 = 0x7000
 
--- the lowest byte of place k of the pointer block at an address
-unfoldable pub place-address : ℕ → ℕ → ℕ
-place-address c k = c + (0x20 + 8 * k)
+-- the lowest byte of place k of the pointer block at an address, by where its places begin
+unfoldable pub place-address : ℕ → ℕ → ℕ → ℕ
+place-address offset c k = c + (offset + 8 * k)
 
 -- the first of these steps programs the byte at an address
 unfoldable pub first-programs : ℕ → List Step → Bool
@@ -60,17 +61,18 @@ first-programs a (Program b v ∷ ss) = eqb b a
 first-programs a (Erase b ∷ ss) = false
 
 -- the first step programs the lowest byte of place k in CPB1, the 9th that in CPB0
-unfoldable pub takes-place : ℕ → List Step → Bool
-takes-place k ss =
-    first-programs (place-address quarry-cpb1 k) ss && first-programs (place-address quarry-cpb0 k) (drop 8 ss)
+unfoldable pub takes-place : ℕ → ℕ → List Step → Bool
+takes-place offset k ss =
+    first-programs (place-address offset quarry-cpb1 k) ss
+    && first-programs (place-address offset quarry-cpb0 k) (drop 8 ss)
 
-unfoldable pub as-expected : Answer (List Step) → Expected → Bool
-as-expected (refused why) (refusal n) = eqb (why .number) n
-as-expected (refused why) (step-count n) = false
-as-expected (refused why) (place k) = false
-as-expected (given ss) (refusal n) = false
-as-expected (given ss) (step-count n) = eqb (length ss) n
-as-expected (given ss) (place k) = takes-place k ss
+unfoldable pub as-expected : ℕ → Answer (List Step) → Expected → Bool
+as-expected offset (refused why) (refusal n) = eqb (why .number) n
+as-expected offset (refused why) (step-count n) = false
+as-expected offset (refused why) (place k) = false
+as-expected offset (given ss) (refusal n) = false
+as-expected offset (given ss) (step-count n) = eqb (length ss) n
+as-expected offset (given ss) (place k) = takes-place offset k ss
 
 -- the order list was given, and is this
 unfoldable pub is-order : List ℕ → Answer (List ℕ) → Bool
@@ -99,7 +101,8 @@ module _ (carried-out : ℕ → List Step → List ℕ → List ℕ) where
 
   -- a command's answer is as expected, and the rest holds of the image that it leaves
   unfoldable pub command-holds : Answer (List Step) → List Expected → Ending → (List ℕ → Bool) → List ℕ → Bool
-  command-holds a es e rest img = all (as-expected a) es && rest (left-after e a img)
+  command-holds a es e rest img =
+      all (as-expected (place-offset (block img quarry-cpb0)) a) es && rest (left-after e a img)
 
   -- these lines hold from an image on
   unfoldable pub holds-from : List Line → List ℕ → Bool
@@ -107,6 +110,7 @@ module _ (carried-out : ℕ → List Step → List ℕ → List ℕ) where
   holds-from (command c es e ∷ ls) img = command-holds (start quarry-setting img c) es e (holds-from ls) img
   holds-from (order-is o ∷ ls) img = is-order o (order-list quarry-setting img room) && holds-from ls img
   holds-from (place-holds c k v ∷ ls) img = eqb (getD (places (block img c)) k 0) v && holds-from ls img
+  holds-from (bytes-at a bs ∷ ls) img = same (take (length bs) (drop a img)) bs && holds-from ls img
 
   unfoldable pub holds : Row → Bool
   holds r = holds-from (r .script) (r .flash)
@@ -204,6 +208,52 @@ case-last-byte = record {
   script = command (enable 2) (place 2 ∷ step-count 16 ∷ []) to-the-end ∷ order-is (2 ∷ 1 ∷ 0 ∷ []) ∷ [];
 }
 
+-- document 02, No. 9: offset 0x28 with 507 places, "enable takes the next place"
+unfoldable pub case-0x28 : Row
+case-0x28 = record {
+  flash = quarry-0x28;
+  script = command (enable 2) (place 2 ∷ step-count 16 ∷ []) to-the-end ∷ order-is (2 ∷ 1 ∷ 0 ∷ []) ∷ [];
+}
+
+-- offset 4,088 with one place: "enable of the slot that is there: 0 steps; of another: 15"
+unfoldable pub case-one-place : Row
+case-one-place = record {
+  flash = quarry-one-place;
+  script =
+      order-is (1 ∷ [])
+      ∷ command (enable 1) (step-count 0 ∷ []) not-run
+      ∷ command (enable 2) (refusal 15 ∷ []) not-run
+      ∷ [];
+}
+
+-- offset 0x20 with four places: a rewrite keeps the bytes before the places and those behind the last
+unfoldable pub case-four-places : Row
+case-four-places = record {
+  flash = quarry-four-places;
+  script =
+      order-is (1 ∷ 0 ∷ [])
+      ∷ command (enable 2) (step-count 8202 ∷ []) to-the-end
+      ∷ order-is (2 ∷ 1 ∷ 0 ∷ [])
+      ∷ bytes-at 0x6018 (replicate 8 other-byte)
+      ∷ bytes-at 0x6040 (replicate 4032 other-byte)
+      ∷ bytes-at 0x7018 (replicate 8 other-byte)
+      ∷ bytes-at 0x7040 (replicate 4032 other-byte)
+      ∷ command (enable 0) (place 3 ∷ step-count 16 ∷ []) not-run
+      ∷ [];
+}
+
+-- two standing copies of different shape disagree, and repair makes them equal
+unfoldable pub case-two-shapes : Row
+case-two-shapes = record {
+  flash = quarry-two-shapes;
+  script =
+      order-is (1 ∷ 0 ∷ [])
+      ∷ command (enable 2) (refusal 6 ∷ []) not-run
+      ∷ command repair (step-count 4101 ∷ []) to-the-end
+      ∷ command (enable 2) (place 2 ∷ step-count 16 ∷ []) not-run
+      ∷ [];
+}
+
 unfoldable pub starred : List Row
 starred =
     case-1
@@ -217,6 +267,10 @@ starred =
     ∷ case-9
     ∷ case-empty
     ∷ case-last-byte
+    ∷ case-0x28
+    ∷ case-one-place
+    ∷ case-four-places
+    ∷ case-two-shapes
     ∷ []
 
 -- ---- cases 8 and 10, as far as they are about an image of this size

@@ -35,12 +35,16 @@ quarry-table p1 p2 =
     ++ (entry-bytes (80 ∷ 50 ∷ []) p2 0x1000 0
     ++ entry-bytes (80 ∷ 51 ∷ []) 0xA000 0x1000 0))))))))))))
 
--- the pointer block, with the pointers of its lowest places
-unfoldable pub quarry-pointers : List ℕ → List ℕ
-quarry-pointers vs =
+-- a pointer block of this offset and count, with these bytes from 0x18 on
+unfoldable pub shaped-pointers : ℕ → ℕ → List ℕ → List ℕ
+shaped-pointers offset count bs =
     padded block-size erased-byte
     (bytes-of 4 0x57789609 ++ (bytes-of 4 0x18 ++ (bytes-of 4 block-size ++ (bytes-of 4 0
-    ++ (bytes-of 4 0x20 ++ (bytes-of 4 508 ++ (bytes-of 8 0 ++ pointer-bytes vs)))))))
+    ++ (bytes-of 4 offset ++ (bytes-of 4 count ++ bs))))))
+
+-- the pointer block, with the pointers of its lowest places
+unfoldable pub quarry-pointers : List ℕ → List ℕ
+quarry-pointers vs = shaped-pointers 0x20 508 (bytes-of 8 0 ++ pointer-bytes vs)
 
 -- an image of a length, from a table, a pointer block and the bytes from 0x8000 on: both copies are equal, the rest is
 -- 0xFF
@@ -73,6 +77,32 @@ quarry-p3 bs = quarry-with (replicate 0x2000 erased-byte ++ bs) (0x8000 ∷ 0x90
 -- case 7: the start of P2 also at place k, which is then the highest used; the places between are erased
 unfoldable pub quarry-used-to : ℕ → List ℕ
 quarry-used-to k = quarry-with sent-slots (0x8000 ∷ 0x9000 ∷ (replicate (k - 2) erased-value ++ (0x9000 ∷ [])))
+
+-- document 02, No. 9: a byte that belongs to no place, and the quarry image with a pointer block of this offset and
+-- count: such bytes before its places, then these pointers, then what follows them
+abbrev pub other-byte : ℕ
+other-byte = 0x5A
+
+unfoldable pub quarry-shaped : ℕ → ℕ → List ℕ → List ℕ → List ℕ
+quarry-shaped offset count vs after =
+    image 65536 (quarry-table 0x8000 0x9000)
+    (shaped-pointers offset count (replicate (offset - 0x18) other-byte ++ (pointer-bytes vs ++ after))) sent-slots
+
+-- offset 0x28 with 507 places
+unfoldable pub quarry-0x28 : List ℕ
+quarry-0x28 = quarry-shaped 0x28 507 (0x8000 ∷ 0x9000 ∷ []) []
+
+-- offset 4,088 with one place
+unfoldable pub quarry-one-place : List ℕ
+quarry-one-place = quarry-shaped 4088 1 (0x9000 ∷ []) []
+
+-- offset 0x20 with four places, all used, and other bytes behind the last
+unfoldable pub quarry-four-places : List ℕ
+quarry-four-places = quarry-shaped 0x20 4 (0x8000 ∷ 0x9000 ∷ 0x8000 ∷ 0x9000 ∷ []) (replicate 4032 other-byte)
+
+-- the second copy of offset 0x28, the first as it was
+unfoldable pub quarry-two-shapes : List ℕ
+quarry-two-shapes = take 0x7000 quarry-sent ++ drop 0x7000 quarry-0x28
 
 -- case 9: P1 moved to 0x11000 and P2 to 0x10000, places 0 and 1 holding these
 unfoldable pub quarry-moved : List ℕ

@@ -1,4 +1,4 @@
-// Runs the cases of document 01, and of document 02, No. 2, on the images under data/ and prints what happens.
+// Runs the cases of document 01, and of document 02, Nos. 2 and 9, on the images under data/ and prints what happens.
 use commands::Command;
 use libc::STDOUT_FILENO;
 use rules::PlaceNo;
@@ -94,6 +94,23 @@ fn empty_slots(image: &mut [u8]) {
     print_order(image);
 }
 
+// The only place holds slot 1.
+fn one_place(image: &mut [u8]) {
+    finish(image, Command::Enable(SlotNo(1)));
+    finish(image, Command::Enable(SlotNo(2)));
+    finish(image, Command::Disable(SlotNo(1)));
+    finish(image, Command::Enable(SlotNo(2)));
+    print_order(image);
+}
+
+fn two_shapes(image: &mut [u8]) {
+    print_order(image);
+    finish(image, Command::Enable(SlotNo(2)));
+    finish(image, Command::Repair);
+    finish(image, Command::Enable(SlotNo(2)));
+    print_order(image);
+}
+
 fn cut_then_repaired(image: &mut [u8]) {
     cut(image, Command::Enable(SlotNo(2)), 15);
     print_place(image, PlaceNo(2));
@@ -121,6 +138,8 @@ enum Case {
     EnableThenDisable,
     RefusedSlots,
     EmptySlots,
+    OnePlace,
+    TwoShapes,
     CutThenRepaired,
     RewriteCut(usize),
     Disable(SlotNo),
@@ -135,6 +154,8 @@ fn run_case(case: Case, image: &mut [u8]) {
         Case::EnableThenDisable => enable_then_disable(image),
         Case::RefusedSlots => refused_slots(image),
         Case::EmptySlots => empty_slots(image),
+        Case::OnePlace => one_place(image),
+        Case::TwoShapes => two_shapes(image),
         Case::CutThenRepaired => cut_then_repaired(image),
         Case::RewriteCut(steps) => rewrite_cut(image, steps),
         Case::Disable(slot) => finish(image, Command::Disable(slot)),
@@ -202,5 +223,21 @@ fn main() {
         b"a slot of which only byte 4,095 was sent\n",
         b"last_byte_sent.img",
         Case::EnableThird(PlaceNo(2)),
+    );
+    on_image(
+        b"offset 0x28, 507 places\n",
+        b"offset_0x28.img",
+        Case::EnableThird(PlaceNo(2)),
+    );
+    on_image(b"offset 4,088, 1 place\n", b"one_place.img", Case::OnePlace);
+    on_image(
+        b"offset 0x20, 4 places\n",
+        b"four_places.img",
+        Case::EnableThird(PlaceNo(3)),
+    );
+    on_image(
+        b"two copies of different shape\n",
+        b"two_shapes.img",
+        Case::TwoShapes,
     );
 }

@@ -98,16 +98,24 @@ pub fn print_place(image: &[u8], block: usize, place: PlaceNo) {
     io::write_all(STDOUT_FILENO, b"place ");
     io::print_decimal(STDOUT_FILENO, place.0 as u64);
     io::write_all(STDOUT_FILENO, b": ");
-    io::print_hex(STDOUT_FILENO, value_at(image, place_at(block, place)), 16);
+    io::print_hex(
+        STDOUT_FILENO,
+        value_at(image, place_at(image, block, place)),
+        16,
+    );
     io::write_all(STDOUT_FILENO, b"\n");
 }
 
-fn place_at(block: usize, place: PlaceNo) -> usize {
-    if 0x100000 < block {
+// Where it is, by the offset in the block's header; 0 where the block passes the image's end.
+fn place_at(image: &[u8], block: usize, place: PlaceNo) -> usize {
+    if image.len() < 4096 {
+        return 0;
+    }
+    if image.len() - 4096 < block {
         return 0;
     }
     if 508 <= place.0 {
         return 0;
     }
-    block + 0x20 + 8 * place.0
+    block + fields::le32(image, block + 0x10) as usize + 8 * place.0
 }

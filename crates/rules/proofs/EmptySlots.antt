@@ -1,9 +1,9 @@
 -- Refusal 14, in plain words.
 --
 -- Where both pairs agree: enable of a slot that is not there is refused 7, whatever the flash holds; of one that is there
--- and empty it is refused 14, first already or not; of any other it starts with the listed steps. One byte that is not
--- 0xFF is enough, and byte 4,095 of the slot counts. Assumes nothing.
-use mathlib.Core.Path.{_≡_, refl, ap}
+-- and empty it is refused 14, first already or not; of any other it is refused 15 if there are not places enough, and else
+-- starts with the listed steps. One byte that is not 0xFF is enough, and byte 4,095 of the slot counts. Assumes nothing.
+use mathlib.Core.Path.{_≡_, refl, ap, _∙_}
 use mathlib.Core.Bool.{true, false, not}
 use mathlib.Core.List.{List, [], _∷_, _++_}
 use Prim.Native.Nat.{ℕ}
@@ -16,7 +16,7 @@ use Rattle.rules.specs.declared.Setting.{Setting}
 use Rattle.rules.specs.Table.{entries, starts}
 use Rattle.rules.specs.Copies.{agree-by}
 use Rattle.rules.specs.Readers.{slot-there}
-use Rattle.rules.specs.Commands.{slot-empty, enable-steps, enable, job}
+use Rattle.rules.specs.Commands.{slot-empty, enough-places, enable-steps, enable, job}
 use Rattle.rules.specs.declared.Step.{Step}
 use Rattle.rules.specs.declared.View.{View}
 use Rattle.rules.proofs.Lists.Tests.{unless-given}
@@ -42,14 +42,29 @@ module _ (s : Setting) (img : List ℕ) (v : View) (k : ℕ) (agree : agree-by s
   abbrev steps-listed : List Step
   steps-listed = enable-steps (v .cpb0) (v .cpb1) (starts t) (block img (v .pointers)) k
 
+  abbrev asked-15 : Answer (List Step)
+  asked-15 = unless 15 (enough-places (starts t) (block img (v .pointers)) k) (given steps-listed)
+
   module _ (there : slot-there (entries t) k ≡ true) where
     pub empty-refused : slot-empty img (getD (starts t) k 0) ≡ true → job s img v (enable k) ≡ refused (numbered 14)
     unfolding job unless
-    empty-refused e = rw (agree, there) (ap (λ b. unless 14 (not b) (given steps-listed)) e)
+    empty-refused e = rw (agree, there) (ap (λ b. unless 14 (not b) asked-15) e)
 
-    pub sent-started : slot-empty img (getD (starts t) k 0) ≡ false → job s img v (enable k) ≡ given steps-listed
+    pub sent-started : slot-empty img (getD (starts t) k 0) ≡ false
+        → enough-places (starts t) (block img (v .pointers)) k ≡ true
+        → job s img v (enable k) ≡ given steps-listed
     unfolding job unless
-    sent-started f = rw (agree, there) (ap (λ b. unless 14 (not b) (given steps-listed)) f)
+    sent-started f enough =
+        rw (agree, there)
+        (ap (λ b. unless 14 (not b) asked-15) f ∙ ap (λ b. unless 15 b (given steps-listed)) enough)
+
+    -- refusal 15, the last of enable's checks; `Pointers.NoRoom` says where it is due
+    pub full-refused : slot-empty img (getD (starts t) k 0) ≡ false
+        → enough-places (starts t) (block img (v .pointers)) k ≡ false
+        → job s img v (enable k) ≡ refused (numbered 15)
+    unfolding job unless
+    full-refused f full =
+        rw (agree, there) (ap (λ b. unless 14 (not b) asked-15) f ∙ ap (λ b. unless 15 b (given steps-listed)) full)
 
 -- ---- which slots are empty
 

@@ -3,6 +3,8 @@ pub mod Placing
 pub mod InPlace
 pub mod Filling
 pub mod Kinds
+pub mod NoRoom
+pub mod Shapes
 pub mod HalfCleared
 pub mod PlacesCleared
 pub mod PointerPair

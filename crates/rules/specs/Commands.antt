@@ -1,4 +1,4 @@
--- The listed steps of enable, disable, rename and repair, and refusals 6 to 10 and 14. Assumes nothing.
+-- The listed steps of enable, disable, rename and repair, and refusals 6 to 10, 14 and 15. Assumes nothing.
 use mathlib.Core.Bool.{Bool, true, false, not, cond, _&&_, _||_}
 use mathlib.Core.List.{List, [], _∷_, _++_, map, reverse}
 use Prim.Native.Nat.{ℕ, zero, suc, _+_, _*_, _-_, _/_}
@@ -71,6 +71,10 @@ append-steps c0 c1 offset k start =
 -- refusal 14: a slot "whose first 4,096 bytes are all 0xFF", by where it starts
 unfoldable pub slot-empty : List ℕ → ℕ → Bool
 slot-empty img start = all (λ b. eqb b erased-byte) (block img start)
+
+-- refusal 15: the rewritten order (s, then the old one without s) does not exceed the count
+unfoldable pub enough-places : List ℕ → List ℕ → ℕ → Bool
+enough-places starts p k = leb (length (k ∷ without k (order starts (places p)))) (place-count p)
 
 -- "Enable s", by where the pointer blocks are, the slots' starts and the pointer block read
 unfoldable pub enable-steps : ℕ → ℕ → List ℕ → List ℕ → ℕ → List Step
@@ -165,7 +169,8 @@ job s img v (enable k) =
     unless 6 (agree-by s img v)
     (unless 7 (slot-there (entries (block img (v .table))) k)
     (unless 14 (not (slot-empty img (getD (starts (block img (v .table))) k 0)))
-    (given (enable-steps (v .cpb0) (v .cpb1) (starts (block img (v .table))) (block img (v .pointers)) k))))
+    (unless 15 (enough-places (starts (block img (v .table))) (block img (v .pointers)) k)
+    (given (enable-steps (v .cpb0) (v .cpb1) (starts (block img (v .table))) (block img (v .pointers)) k)))))
 job s img v (disable k) =
     unless 6 (agree-by s img v)
     (unless 7 (slot-there (entries (block img (v .table))) k)

@@ -3,11 +3,11 @@
 use mathlib.Core.Bool.{Bool, true, false, cond, _&&_}
 use mathlib.Core.List.{List, [], _∷_, _++_}
 use mathlib.Core.Option.{Option, none, some}
-use Prim.Native.Nat.{ℕ, zero, suc, _/_}
-use lib.Dec.{eqb}
+use Prim.Native.Nat.{ℕ, zero, suc, _-_, _/_}
+use lib.Dec.{eqb, leb}
 use lib.ListN.{take, drop}
 use Rattle.rules.specs.Lists.{member}
-use Rattle.rules.specs.Bytes.{little-endian, field, block-size}
+use Rattle.rules.specs.Bytes.{little-endian, field, block-size, multiple}
 use Rattle.rules.specs.declared.Place.{Place}
 use Rattle.rules.specs.declared.Place.the-variants.{Erased, Spent, Live, PartWritten, Stray}
 
@@ -21,14 +21,22 @@ place-count p = field 0x14 4 p
 abbrev pub pointers-magic : ℕ
 pointers-magic = 0x57789609
 
--- "A copy stands if the five named fields are right" (document 01's term)
+-- "an offset that is a multiple of 8 from 0x20 to 4,088"
+unfoldable pub offset-right : ℕ → Bool
+offset-right offset = multiple 8 offset && leb 0x20 offset && leb offset 4088
+
+-- "a count from 1 up to the room left"
+unfoldable pub fits-room : ℕ → ℕ → Bool
+fits-room offset count = leb 1 count && leb count ((block-size - offset) / 8)
+
+-- "A copy stands if the five named fields are right" (document 01's term); offset and count as document 02 has them
 unfoldable pub pointers-stand : List ℕ → Bool
 pointers-stand p =
     eqb (field 0x00 4 p) pointers-magic
     && eqb (field 0x04 4 p) 0x18
     && eqb (field 0x08 4 p) block-size
-    && eqb (place-offset p) 0x20
-    && eqb (place-count p) 508
+    && offset-right (place-offset p)
+    && fits-room (place-offset p) (place-count p)
 
 -- n values of 8 bytes each, from the front
 unfoldable pub values : ℕ → List ℕ → List ℕ

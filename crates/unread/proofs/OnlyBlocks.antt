@@ -20,7 +20,7 @@ use Rattle.rules.specs.Table.{entries, table-stands, starts, cpb0-of, cpb1-of}
 use Rattle.rules.specs.Pointers.{pointers-stand}
 use Rattle.rules.specs.Copies.{table-read, pointers-read, view-through, view, boot-order, pair-agrees, tables-agree, pointers-agree, agree-by, agreed, pairs-agree, no-table}
 use Rattle.rules.specs.Readers.{slot-there, order-list, table-of, table-part, slot-count, slot-facts, slot-name}
-use Rattle.rules.specs.Commands.{Command, enable, disable, rename, repair, repair-pair, repair-steps, slot-empty, enable-steps, job, start}
+use Rattle.rules.specs.Commands.{Command, enable, disable, rename, repair, repair-pair, repair-steps, slot-empty, enough-places, enable-steps, job, start}
 use Rattle.rules.specs.Book.{read-by, reading}
 use Rattle.rules.specs.declared.View.{View}
 use Rattle.rules.proofs.Lists.Tests.{given-inj, bind-given, unless-given}
@@ -188,7 +188,8 @@ module _ (s : Setting) (img img′ : List ℕ) (same : SameBlocks s img img′) 
       rw (
         agree-same v b,
         unless-same 7 14 (slot-there (entries t) k) (not (slot-empty img a)) (not (slot-empty img′ a))
-            (given (enable-steps (v .cpb0) (v .cpb1) (starts t) (block img (v .pointers)) k))
+            (unless 15 (enough-places (starts t) (block img (v .pointers)) k)
+            (given (enable-steps (v .cpb0) (v .cpb1) (starts t) (block img (v .pointers)) k)))
             (λ there. rw (slot (v .table) (b .reads) there)),
         b .table,
         b .pointers,

@@ -388,7 +388,8 @@ impl Setting {
         self.answer(image, number, (judgement, value))
     }
 
-    /// A job by which a slot comes first in the boot order: refused 14 if its first 4,096 bytes are all 0xFF.
+    /// A job by which a slot comes first in the boot order: refused 14 if its first 4,096 bytes are all 0xFF, and 15 if
+    /// each place of the pointer block has a slot of its own and this slot has none.
     pub fn enable(&self, image: &[u8], slot: u32) -> Result<Job, Refused> {
         self.slot_job(raw::delunkpawi_enable, image, slot)
     }

@@ -119,11 +119,29 @@ fn refuses() {
 #[test]
 fn refuses_an_empty_slot() {
     let mut image = quarry();
-    assert_eq!(SETTING.enable(&image, 1).err(), Some(Refused(14)));
-    assert_eq!(SETTING.enable(&image, 2).err(), Some(Refused(14)));
-    assert_eq!(SETTING.enable(&image, 3).err(), Some(Refused(7)));
+    assert_eq!(SETTING.enable(&image, 1).err(), Some(Refused::numbered(14)));
+    assert_eq!(SETTING.enable(&image, 2).err(), Some(Refused::numbered(14)));
+    assert_eq!(SETTING.enable(&image, 3).err(), Some(Refused::numbered(7)));
     image[0xAFFF] = 0;
     assert_eq!(finish(SETTING.enable(&image, 2).unwrap(), &mut image), 16);
+}
+
+/// One place at the block's end, which holds P2: offset 4,088, count 1.
+#[test]
+fn takes_offset_and_count_from_the_block() {
+    let mut image = quarry_sent();
+    for cpb in [0x6000, 0x7000] {
+        image[cpb + 0x10..cpb + 0x18].copy_from_slice(&[0xF8, 0x0F, 0, 0, 1, 0, 0, 0]);
+        image[cpb + 4088..cpb + 4096].copy_from_slice(&0x9000u64.to_le_bytes());
+    }
+    assert_eq!(SETTING.place_count(&image), Ok(1));
+    assert_eq!(SETTING.order(&image), Ok(vec![1]));
+    assert_eq!(finish(SETTING.enable(&image, 1).unwrap(), &mut image), 0);
+    assert_eq!(SETTING.enable(&image, 2).err(), Some(Refused::numbered(15)));
+    for cpb in [0x6000, 0x7000] {
+        image[cpb + 0x14] = 2;
+    }
+    assert_eq!(SETTING.order(&image), Err(Refused::numbered(5)));
 }
 
 #[test]

@@ -8,7 +8,6 @@ use Rattle.rules.specs.Pointers.{places}
 use Rattle.rules.specs.Commands.{filled, giving}
 use Rattle.rules.specs.declared.Place.{Place}
 use Rattle.rules.specs.declared.Place.the-variants.{Erased, Spent, Live, PartWritten, Stray}
-use Rattle.walks.specs.Entries.{most-entries}
 use Rattle.slots.specs.Inner.RowsOf.{HasRows}
 use Rattle.slots.specs.declared.Rows.{Rows}
 use Rattle.places.specs.Inner.PlacesOf.{HasPlaces}
@@ -24,9 +23,9 @@ pub record Readable (t : List ℕ) (r : Rows) (p : List ℕ) (k : Places) : Type
 abbrev pub places-giving : List ℕ → List ℕ → ℕ → List ℕ
 places-giving t p slot = giving (starts t) slot 0 (places p)
 
--- an order of slots, of which a table has so many
-pub record SlotNumbers (count : ℕ) (o : List ℕ) : Type 0 where
-  pub few : length o ≤ most-entries
+-- an order of slots, of which a table has so many, for which there is so much room
+pub record SlotNumbers (count room : ℕ) (o : List ℕ) : Type 0 where
+  pub few : length o ≤ room
   pub below : (i : ℕ) → i < length o → getD o i 0 < count
 
 unfoldable pub is-live : Place → Bool

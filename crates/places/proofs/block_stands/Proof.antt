@@ -16,18 +16,35 @@ le32-requires-3 c κs = search needs
 le32-requires-4 : tie.Need-le32-requires-4
 le32-requires-4 c κs = search needs
 
+offset-right-requires : tie.Need-offset-right-requires
+offset-right-requires c κs = search needs
+
 le32-requires-5 : tie.Need-le32-requires-5
 le32-requires-5 c κs = search needs
+
+le32-requires-6 : tie.Need-le32-requires-6
+le32-requires-6 c κs = search needs
+
+fits-room-requires : tie.Need-fits-room-requires
+fits-room-requires c κs = search needs
 
 returns : tie.Need-returns
 unfolding pointers-stand place-offset place-count
 returns c =
+    let count = c .before in
+    let offset = count .before in
+    let right = offset .before in
+    let told = right .before in
+    let size = told .before in
     rw (
-      c .before .before .before .before .le32 .ensures .0,
-      c .before .before .before .le322 .ensures .0,
-      c .before .before .le323 .ensures .0,
-      c .before .le324 .ensures .0,
-      c .le325 .ensures .0,
+      size .before .before .le32 .ensures .0,
+      size .before .le322 .ensures .0,
+      size .le323 .ensures .0,
+      right .offset-right .ensures,
+      told .le324 .ensures .0,
+      c .fits-room .ensures,
+      offset .le325 .ensures .0,
+      count .le326 .ensures .0,
     )
 
 pub block-stands-spec : {M : Type 1} → statement M
@@ -38,5 +55,8 @@ block-stands-spec =
     le32-requires-2
     le32-requires-3
     le32-requires-4
+    offset-right-requires
     le32-requires-5
+    le32-requires-6
+    fits-room-requires
     returns)

@@ -6,7 +6,7 @@ use native.Mathlib.Omega.{arith}
 use lib.ListN.{drop}
 use Rattle.rules.specs.Lists.{member}
 use Rattle.rules.specs.Pointers.{places}
-use Rattle.rules.proofs.Pointers.PointerHeader.{layout}
+use Rattle.rules.proofs.Pointers.PointerHeader.{places-fit}
 use Rattle.walks.proofs.Loops.{member-here, member-goes}
 use Rattle.places.proofs.Values.{place-turn}
 use Rattle.places.proofs.Free.{count-is, free-places, not-held}
@@ -24,7 +24,7 @@ add-k : tie.Need-add-k Inv-loop μ-loop
 add-k c =
     let start = c .before .before in
     let h = start .pre .0 .0 in
-    omega (arith, layout (start .args .p .now) (h .block .stands), count-is (start .args .p .now) (start .args .places) h)
+    omega (arith, places-fit (start .args .p .now) (h .block .stands) .at-most-508, count-is (start .args .p .now) (start .args .places) h)
 
 loop-holds : tie.Need-loop-holds Inv-loop μ-loop
 loop-holds c = refl

@@ -29,8 +29,8 @@ module _ (beginning : Beginning) (img : List ℕ) (r : Reading) (h : Invariant b
   every-job-right c ss names e = right c names (started-by beginning img r h c ss e)
     where
       right : (c : Command) → name-bytes c → Started beginning img r h c ss → JobRight beginning img r c ss
-      right (enable k) _ (equal, there, _, listed) =
-          subst (JobRight beginning img r (enable k)) listed (enable-right beginning img r h equal k there)
+      right (enable k) _ (equal, there, _, fits, listed) =
+          subst (JobRight beginning img r (enable k)) listed (enable-right beginning img r h equal k there fits)
       right (disable k) _ (equal, there, listed) =
           subst (JobRight beginning img r (disable k)) listed (disable-right beginning img r h equal k there)
       right (rename k n) bytes (equal, there, may, free, listed) =

@@ -11,7 +11,7 @@ use Rattle.rules.specs.Answers.{Answer, given, unless}
 use Rattle.rules.specs.Table.{Entry, entries, slots, slot-starts, starts}
 use Rattle.rules.specs.Copies.{agree-by, boot-order}
 use Rattle.rules.specs.Readers.{slot-row, slot-there}
-use Rattle.rules.specs.Commands.{Command, enable, disable, rename, repair, name-allowed, name-free, slot-empty, enable-steps, disable-steps, rename-steps, repair-steps, job}
+use Rattle.rules.specs.Commands.{Command, enable, disable, rename, repair, name-allowed, name-free, slot-empty, enough-places, enable-steps, disable-steps, rename-steps, repair-steps, job}
 use Rattle.rules.specs.Book.{Reading}
 use Rattle.rules.specs.declared.Step.{Step}
 use Rattle.rules.specs.declared.View.{View}
@@ -36,12 +36,14 @@ module _ (beginning : Beginning) (img : List ℕ) (r : Reading) (h : Invariant b
   pub pointers-there : block img (v .pointers) ≡ h .pointers
   pointers-there = pointers-address beginning img r h .2
 
-  -- the pairs agree (not asked of repair), the slot is there and, for enable, not empty, a new name may be given
+  -- the pairs agree (not asked of repair), the slot is there and, for enable, not empty and with room in the block, a new
+  -- name may be given
   abbrev pub Started : Command → List Step → Type 0
   Started (enable k) ss =
       BothEqual beginning img
       × (k < length (starts (r .table)))
       × (slot-empty img (getD (starts (r .table)) k 0) ≡ false)
+      × (enough-places (starts (r .table)) (h .pointers) k ≡ true)
       × (enable-steps c0 c1 (starts (r .table)) (h .pointers) k ≡ ss)
   Started (disable k) ss =
       BothEqual beginning img
@@ -70,7 +72,8 @@ module _ (beginning : Beginning) (img : List ℕ) (r : Reading) (h : Invariant b
   started-by (enable k) ss e =
       let (equal, there, e14) = agree-and-there k _ ss (rw (table-there, pointers-there) at e) in
       let (sent, e15) = not-empty-if-given img (getD (starts (r .table)) k 0) _ ss e14 in
-      (equal, slots-by-starts (r .table) k there, sent, given-inj _ ss e15)
+      let (fits, e16) = unless-given 15 (enough-places (starts (r .table)) (h .pointers) k) _ ss e15 in
+      (equal, slots-by-starts (r .table) k there, sent, fits, given-inj _ ss e16)
   started-by (disable k) ss e =
       let (equal, there, e8) = agree-and-there k _ ss (rw (table-there, pointers-there) at e) in
       let (in-order, e9) = unless-given 8 (member k (boot-order img v)) _ ss e8 in

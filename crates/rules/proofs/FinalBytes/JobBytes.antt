@@ -91,9 +91,9 @@ module _ (b : Beginning) (img : List ℕ) (r : Reading) (h : Invariant b img r) 
       all-done ts = steps (s .granule) ts img
 
       by-command : (c : Command) → name-bytes c → Started b img r h c ss → all-done ss ≡ final s img v c
-      by-command (enable k) _ (equal, there, _, listed) =
+      by-command (enable k) _ (equal, there, _, fits, listed) =
           rw (table-there b img r h, pointers-there b img r h)
-          (sym (ap all-done listed) ∙ enable-puts (agreed b img r h equal) k there)
+          (sym (ap all-done listed) ∙ enable-puts (agreed b img r h equal) k there fits)
       by-command (disable k) _ (equal, there, listed) =
           rw (table-there b img r h, pointers-there b img r h)
           (sym (ap all-done listed) ∙ disable-puts (agreed b img r h equal) k)

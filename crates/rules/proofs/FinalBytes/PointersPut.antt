@@ -1,6 +1,7 @@
 -- Enable and disable on a pair of pointer blocks that agrees: the bytes that their steps put into the image. Assumes
 -- nothing.
 use mathlib.Core.Path.{_≡_, refl, ap, _∙_}
+use mathlib.Core.Bool.{true}
 use mathlib.Core.List.{List, [], _∷_}
 use Prim.Native.Nat.{ℕ, _+_, _<_}
 use native.Mathlib.Omega.{arith}
@@ -11,7 +12,7 @@ use Rattle.rules.specs.Lists.{without}
 use Rattle.rules.specs.Bytes.{bytes-of, erased-byte}
 use Rattle.rules.specs.Pointers.{place-offset, place-count, places}
 use Rattle.rules.specs.Steps.{steps}
-use Rattle.rules.specs.Commands.{filled, pointers-of, reorder-steps, is-first, free-place, into-place, append-steps, enable-steps, giving, into-places, clear-steps, half-cleared-names, disable-steps}
+use Rattle.rules.specs.Commands.{filled, pointers-of, reorder-steps, is-first, free-place, into-place, append-steps, enable-steps, giving, into-places, clear-steps, half-cleared-names, disable-steps, enough-places}
 use Rattle.rules.specs.Final.{put-pair, put-places, put-places-pair, enabled, disabled}
 use Rattle.rules.proofs.Lists.Tests.{by-cases}
 use Rattle.rules.proofs.Steps.Programming.{steps-append}
@@ -103,14 +104,15 @@ module _ (agreed : AgreedPointers) where
 
   pub enable-puts : (k : ℕ)
       → k < length starts
+      → enough-places starts p k ≡ true
       → steps granule (enable-steps c0 c1 starts p k) img ≡ enabled granule c0 c1 starts p k img
   unfolding enable-steps enabled
-  enable-puts k there =
+  enable-puts k there fits =
       by-cases (is-first k (old-order agreed))
       (λ t. rw t (unfold steps in refl))
       (λ f. by-cases (ltb (free-place starts (places p)) count)
       (λ u. rw (f, u) (appending-puts (getD starts k 0) (ltb-true (free-place starts (places p)) count u)))
-      (λ u. rw (f, u) (reordering-puts (k ∷ without k (old-order agreed)) (enabled-order-fits agreed k there))))
+      (λ u. rw (f, u) (reordering-puts (k ∷ without k (old-order agreed)) (enabled-order-fits agreed k there fits))))
 
   pub disable-puts : (k : ℕ)
       → steps granule (disable-steps c0 c1 starts p k) img ≡ disabled granule c0 c1 starts p k img

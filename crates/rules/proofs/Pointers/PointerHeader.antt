@@ -3,13 +3,13 @@
 use mathlib.Core.Path.{_≡_}
 use mathlib.Core.Bool.{Bool, true, false, _&&_}
 use mathlib.Core.List.{List}
-use Prim.Native.Nat.{ℕ, _+_, _*_, _≤_}
+use Prim.Native.Nat.{ℕ, _+_, _*_, _-_, _/_, _≤_, _<_}
 use native.Mathlib.Omega.{arith}
-use lib.Dec.{eqb}
-use borrow.Author.Tests.{eqb-true}
+use lib.Dec.{eqb, leb}
+use borrow.Author.Tests.{leb-true}
 use lib.ListN.{take, drop}
-use Rattle.rules.specs.Bytes.{block-size, field}
-use Rattle.rules.specs.Pointers.{place-offset, place-count, pointers-magic, pointers-stand, values, places}
+use Rattle.rules.specs.Bytes.{block-size, field, multiple}
+use Rattle.rules.specs.Pointers.{place-offset, place-count, pointers-magic, offset-right, fits-room, pointers-stand, values, places}
 use Rattle.rules.proofs.Lists.Tests.{and-true}
 use Rattle.rules.proofs.Lists.ByteLists.{field-by-front}
 use Rattle.rules.proofs.Steps.Frame.{Range}
@@ -25,25 +25,33 @@ SameHeader p p′ = take header-size p′ ≡ take header-size p
 
 -- ---- what a standing block's header says
 
+-- the one lemma that knows the rule of offset and count
 pub record PlacesFit (p : List ℕ) : Type 0 where
   pub after-header : header-size ≤ place-offset p
   pub in-block : place-offset p + 8 * place-count p ≤ block-size
-  pub for-every-slot : 127 ≤ place-count p
-
--- the one lemma that knows the two numbers
-pub layout : (p : List ℕ) → pointers-stand p ≡ true → (place-offset p ≡ 0x20) × (place-count p ≡ 508)
-unfolding pointers-stand
-layout p h =
-    let three : Bool =
-    eqb (field 0x00 4 p) pointers-magic && eqb (field 0x04 4 p) 0x18 && eqb (field 0x08 4 p) block-size in
-    let (four, count) = and-true (three && eqb (place-offset p) 0x20) (eqb (place-count p) 508) h in
-    let (_, offset) = and-true three (eqb (place-offset p) 0x20) four in
-    (eqb-true (place-offset p) 0x20 offset, eqb-true (place-count p) 508 count)
+  pub one-place : 0 < place-count p
+  pub at-most-508 : place-count p ≤ 508
 
 pub places-fit : (p : List ℕ) → pointers-stand p ≡ true → PlacesFit p
+unfolding pointers-stand offset-right fits-room
 places-fit p h =
-    let (offset-is, count-is) = layout p h in
-    record { after-header = omega arith; in-block = omega arith; for-every-slot = omega arith }
+    let offset = place-offset p in
+    let count = place-count p in
+    let sizes : Bool =
+    eqb (field 0x00 4 p) pointers-magic && eqb (field 0x04 4 p) 0x18 && eqb (field 0x08 4 p) block-size in
+    let (four, fits) = and-true (sizes && offset-right offset) (fits-room offset count) h in
+    let (_, right) = and-true sizes (offset-right offset) four in
+    let (from-0x20, _) = and-true (multiple 8 offset && leb 0x20 offset) (leb offset 4088) right in
+    let low = leb-true 0x20 offset (and-true (multiple 8 offset) (leb 0x20 offset) from-0x20 .1) in
+    let (some, few) = and-true (leb 1 count) (leb count ((block-size - offset) / 8)) fits in
+    let least = leb-true 1 count some in
+    let most = leb-true count ((block-size - offset) / 8) few in
+    record {
+      after-header = omega arith;
+      in-block = omega arith;
+      one-place = omega arith;
+      at-most-508 = omega arith;
+    }
 
 pub pointers-torn : (p : List ℕ) → Torn p → pointers-stand p ≡ false
 unfolding pointers-stand

@@ -14,7 +14,7 @@ use Rattle.rules.specs.Table.{starts}
 use Rattle.rules.specs.Pointers.{place-count, pointers-stand, places, order}
 use Rattle.rules.specs.Steps.{steps}
 use Rattle.rules.specs.Copies.{order-by}
-use Rattle.rules.specs.Commands.{enable, disable, is-first, free-place, enable-steps, disable-steps, half-cleared-names}
+use Rattle.rules.specs.Commands.{enable, disable, is-first, free-place, enable-steps, disable-steps, half-cleared-names, enough-places}
 use Rattle.rules.specs.Book.{Reading, changed}
 use Rattle.rules.specs.declared.Step.{Step}
 use Rattle.rules.proofs.Lists.Tests.{by-cases, clash}
@@ -113,21 +113,22 @@ module _ (beginning : Beginning) (img : List ℕ) (r : Reading) (h : Invariant b
   -- ---- enable
 
   module _ (k : ℕ) (there : k < length xs) where
-    enable-reorders : Reorders agreed (k ∷ without k old) (enable-steps c0 c1 xs p k)
-    unfolding enable-steps
-    enable-reorders =
-        by-cases (is-first k old)
-        (λ t. rw t
-        (no-steps-reorder agreed (k ∷ without k old) (first-again (length xs) k old (once-order xs (places p)) t)))
-        (λ f. by-cases (ltb (free-place xs (places p)) (place-count p))
-        (λ u. rw (f, u) (appending-reorders agreed k there (ltb-true (free-place xs (places p)) (place-count p) u)))
-        (λ u. rw (f, u) (rewriting-reorders agreed (k ∷ without k old) (enabled-order-fits agreed k there))))
+    module _ (fits : enough-places xs p k ≡ true) where
+      enable-reorders : Reorders agreed (k ∷ without k old) (enable-steps c0 c1 xs p k)
+      unfolding enable-steps
+      enable-reorders =
+          by-cases (is-first k old)
+          (λ t. rw t
+          (no-steps-reorder agreed (k ∷ without k old) (first-again (length xs) k old (once-order xs (places p)) t)))
+          (λ f. by-cases (ltb (free-place xs (places p)) (place-count p))
+          (λ u. rw (f, u) (appending-reorders agreed k there (ltb-true (free-place xs (places p)) (place-count p) u)))
+          (λ u. rw (f, u) (rewriting-reorders agreed (k ∷ without k old) (enabled-order-fits agreed k there fits))))
 
-    pub enable-right : JobRight beginning img r (enable k) (enable-steps c0 c1 xs p k)
-    unfolding changed order-by
-    enable-right =
-        subst (λ (o : List ℕ). Leads beginning img r (with-order (k ∷ without k o)) (enable-steps c0 c1 xs p k)) (h .boots)
-        (reorders-right (k ∷ without k old) (enable-steps c0 c1 xs p k) enable-reorders)
+      pub enable-right : JobRight beginning img r (enable k) (enable-steps c0 c1 xs p k)
+      unfolding changed order-by
+      enable-right =
+          subst (λ (o : List ℕ). Leads beginning img r (with-order (k ∷ without k o)) (enable-steps c0 c1 xs p k)) (h .boots)
+          (reorders-right (k ∷ without k old) (enable-steps c0 c1 xs p k) enable-reorders)
 
     -- ---- disable
 

@@ -6,20 +6,21 @@ use mathlib.Core.Logic.{_⊎_, inl, inr}
 use mathlib.Core.List.{List, [], _∷_}
 use Prim.Native.Nat.{ℕ, _+_, _≤_, _<_}
 use native.Mathlib.Omega.{arith}
+use borrow.Author.Tests.{leb-true}
 use lib.ListN.{length, drop}
 use Rattle.rules.specs.Lists.{without}
 use Rattle.rules.specs.Bytes.{Bytes, block, block-size}
 use Rattle.rules.specs.declared.Step.{Step}
 use Rattle.rules.specs.Pointers.{place-offset, place-count, pointers-stand, places, order}
 use Rattle.rules.specs.Steps.{steps, rewrite-pair}
-use Rattle.rules.specs.Commands.{filled, pointers-of, reorder-steps}
+use Rattle.rules.specs.Commands.{filled, pointers-of, reorder-steps, enough-places}
 use Rattle.rules.proofs.Steps.Cutting.{Cut}
 use Rattle.rules.proofs.Steps.Frame.{Range, only-none, StepsWithin, length-block, bytes-block}
 use Rattle.rules.proofs.Copies.CopyRead.{first-read}
 use Rattle.rules.proofs.Copies.PairCuts.{Two, Pair, Reads, Changes, rewrite-pair-within, rewrite-pair-cut, rewrite-pair-done}
 use Rattle.rules.proofs.Table.SlotStarts.{SlotStarts}
 use Rattle.rules.proofs.Pointers.PointerHeader.{PlacesFit, places-fit, two-pointer-blocks}
-use Rattle.rules.proofs.Order.OnceEach.{Once, once-order, once-first, once-without, once-length, order-length, without-length}
+use Rattle.rules.proofs.Order.OnceEach.{Once, once-order, once-first, once-without, order-length, without-length}
 use Rattle.rules.proofs.Lists.Words.{length-values}
 use Rattle.rules.proofs.Pointers.Filling.{length-pointers-of, length-filled, bytes-filled, filled-stands, filled-order}
 
@@ -106,16 +107,12 @@ module _ (agreed : AgreedPointers) where
   old-once : Once (length starts) old-order
   old-once = once-order starts (places p)
 
-  pub enabled-order-fits : (k : ℕ) → k < length starts → FitsBlock (k ∷ without k old-order)
-  enabled-order-fits k there =
-      let new-once = once-first (length starts) k old-order there old-once in
-      record {
-        once = new-once;
-        short =
-            let few-slots = right .few in
-            let many-places = fit .for-every-slot in
-            omega (arith, once-length (length starts) (k ∷ without k old-order) new-once);
-      }
+  pub enabled-order-fits : (k : ℕ) → k < length starts → enough-places starts p k ≡ true → FitsBlock (k ∷ without k old-order)
+  unfolding enough-places
+  enabled-order-fits k there fits = record {
+    once = once-first (length starts) k old-order there old-once;
+    short = leb-true (length (k ∷ without k old-order)) (place-count p) fits;
+  }
 
   pub disabled-order-fits : (k : ℕ) → FitsBlock (without k old-order)
   unfolding places

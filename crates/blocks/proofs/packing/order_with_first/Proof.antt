@@ -1,7 +1,9 @@
 -- `order_with_first` is the block with the slot's pointer as its last. Assumes nothing.
 use mathlib.Core.Path.{_≡_, ap}
+use mathlib.Core.List.{_∷_}
 use Prim.Native.Nat.{_<_}
 use native.Mathlib.Omega.{arith}
+use borrow.Author.Tests.{leb-true}
 use lib.ListN.{length}
 use borrow.Author.Needs.{needs}
 use Rattle.rules.specs.Lists.{without}
@@ -9,32 +11,28 @@ use Rattle.rules.specs.Bytes.{block-size}
 use Rattle.rules.specs.Table.{starts}
 use Rattle.rules.specs.Copies.{order-by}
 use Rattle.rules.specs.Pointers.{place-count, places, order}
-use Rattle.rules.specs.Commands.{pointers-of}
+use Rattle.rules.specs.Commands.{pointers-of, enough-places}
 use Rattle.rules.proofs.Pointers.PointerHeader.{places-fit}
-use Rattle.slots.proofs.RowsOf.{count-is}
 use Rattle.places.proofs.Free.{offset-is}
 use Rattle.blocks.specs.declared.Packed.{Packed}
 use Rattle.blocks.proofs.Putting.{pointer-put-after}
-use Rattle.blocks.proofs.OrderPacked.{pointers-first, length-pointers, room-for-first}
+use Rattle.blocks.proofs.OrderPacked.{pointers-first, length-pointers}
 use Rattle.blocks.proofs.packing.order_with_first.Statement.{statement}
 use Rattle.blocks.proofs.packing.order_with_first.Tie as tie
 
 -- a place is left for the slot
 place-left : (c : tie.After-order-without) → c .order-without .result .count < place-count (c .before .before .before .args .p .now)
-unfolding order-by
+unfolding order-by enough-places
 place-left c =
     let s = c .before .before .before in
     let a = s .args in
     let p = a .p .now in
-    let slots = starts (a .t .now) in
+    let o = without (a .slot .0) (order (starts (a .t .now)) (places p)) in
     omega (
       arith,
       ap (λ (m : Packed). m .count) (c .order-without .ensures),
-      length-pointers slots (without (a .slot .0) (order slots (places p))),
-      room-for-first (a .t .now) (places p) (a .slot .0) (s .pre .1 .0),
-      places-fit p (s .pre .0 .pointers .block .stands) .for-every-slot,
-      count-is (a .t .now) (a .rows) (s .pre .0 .table),
-      s .pre .0 .table .table .few,
+      length-pointers (starts (a .t .now)) o,
+      leb-true (length (a .slot .0 ∷ o)) (place-count p) (s .pre .1 .0),
     )
 
 whole-block : (c : tie.After-order-without) → length (c .order-without .result .block) ≡ block-size

@@ -6,6 +6,7 @@ use borrow.Author.Needs.{needs}
 use Rattle.rules.specs.Pointers.{places}
 use Rattle.rules.specs.Copies.{order-by}
 use Rattle.slots.proofs.RowsOf.{count-is}
+use Rattle.places.proofs.Values.{length-places}
 use Rattle.blocks.proofs.OrderPacked.{few-in-order, numbers-of-order, front-of-row}
 use Rattle.blocks.proofs.packing.order_without.Statement.{statement}
 use Rattle.blocks.proofs.packing.order_without.Tie as tie
@@ -58,8 +59,7 @@ pack-without-requires c κs =
     let at-write-order = c .before .before in
     let s = at-write-order .before .before .before .before in
     let a = s .args in
-    let few = rw (count-is (a .t .now) (a .rows) (s .pre .table)) at (s .pre .table .table .few) in
-    (s .pre, rw (in-front at-write-order) (numbers-of-order (a .t .now) (places (a .p .now)) few))
+    (s .pre, rw (in-front at-write-order, ← length-places (a .p .now)) (numbers-of-order (a .t .now) (places (a .p .now))))
 
 returns : tie.Need-returns
 returns c = c .pack-without .ensures ∙ rw (in-front (c .before .before .before))

@@ -70,7 +70,6 @@ add-copy c =
     omega (
       arith,
       fits .in-block,
-      fits .for-every-slot,
       s .pre .1 .few,
       offset-is (s .args .p .now) (s .args .places) (s .pre .0 .pointers),
     )
@@ -87,7 +86,6 @@ copy-requires c κs =
     omega (
       arith,
       fits .in-block,
-      fits .for-every-slot,
       s .pre .1 .few,
       offset-is (s .args .p .now) (s .args .places) (s .pre .0 .pointers),
       at-loop-test .loop-test .taken,
@@ -124,7 +122,7 @@ loop-again c =
         rw turn
             (pointer-put-after p us (at .loop .b) (at-bytes-of .bytes-of .result) (at-copy .copy .last .0)
             (getD slots (getD o (i - 1) 0) 0) (a .places .offset) (at .loop .count)
-            (omega (arith, fits .in-block, s .pre .0 .pointers .block .whole)) (omega (arith, fits .for-every-slot, s .pre .1 .few))
+            (omega (arith, fits .in-block, s .pre .0 .pointers .block .whole)) (omega (arith, s .pre .1 .few))
             (at .loop .inv .1 .0) (at .loop .inv .1 .1) (offset-is p (a .places) (s .pre .0 .pointers))
             (at-bytes-of .bytes-of .ensures ∙ rw (at-slot-start .slot-start .ensures))
             (at-copy .copy .ensures)),

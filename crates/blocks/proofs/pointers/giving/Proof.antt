@@ -9,7 +9,7 @@ use borrow.Author.Needs.{needs}
 use Rattle.rules.specs.Table.{starts}
 use Rattle.rules.specs.Pointers.{places}
 use Rattle.rules.specs.Commands.{giving}
-use Rattle.rules.proofs.Pointers.PointerHeader.{layout}
+use Rattle.rules.proofs.Pointers.PointerHeader.{places-fit}
 use Rattle.places.proofs.Free.{count-is, free-places}
 use Rattle.jobs.specs.Jobs.{place-room}
 use Rattle.blocks.specs.Made.{number-bytes, places-noted}
@@ -48,7 +48,7 @@ note-requires : tie.Need-note-requires Inv-loop μ-loop
 note-requires c κs =
     let s = c .before .before .before .before .before .before .before in
     let h = s .pre .0 .pointers in
-    let room = layout (s .args .p .now) (h .block .stands) .1 in
+    let room = places-fit (s .args .p .now) (h .block .stands) .at-most-508 in
     let within = free-places (s .args .p .now) (s .args .places) h .within in
     (search needs, (omega arith, omega arith))
 
@@ -71,7 +71,7 @@ loop-again c =
     let ks = giving slots (a .slot .0) 0 (take k (places (a .p .now))) in
     let (counted, same) = at .loop .inv .1 in
     let h = s .pre .0 .pointers in
-    let room = layout (a .p .now) (h .block .stands) .1 in
+    let room = places-fit (a .p .now) (h .block .stands) .at-most-508 in
     let within = free-places (a .p .now) (a .places) h .within in
     let here = giving-here slots (a .slot .0) (a .p .now) k (omega arith)
     (sym (at-does-give .does-give .ensures) ∙ at-if1 .if1 .taken) in (

@@ -3,14 +3,16 @@ use mathlib.Core.Path.{refl, sym, _∙_}
 use Prim.Native.Nat.{_<_}
 use native.Mathlib.Omega.{arith}
 use lib.ListN.{length}
+use borrow.Author.Tests.{not-true, not-false}
 use borrow.Author.Needs.{needs}
 use Rattle.rules.specs.Answers.{numbered}
 use Rattle.rules.specs.Table.{entry-count, entries, slots}
 use Rattle.rules.specs.Commands.{enable}
 use Rattle.reading.specs.Inner.Located.{Located}
 use Rattle.reading.proofs.Opening.{located, has-entries, has-pointers}
+use Rattle.blocks.specs.Inner.Walked.{Readable}
 use Rattle.commands.proofs.Locating.{has-rows, readable}
-use Rattle.commands.proofs.Asking.{returns-refused, enable-refused, enable-refused-14, enable-started, slot-counted, begins-inside}
+use Rattle.commands.proofs.Asking.{returns-refused, enable-refused, enable-refused-14, enable-refused-15, enable-started, slot-counted, begins-inside}
 use Rattle.commands.proofs.enabling.enable_by.Statement.{statement}
 use Rattle.commands.proofs.enabling.enable_by.Tie as tie
 
@@ -107,29 +109,68 @@ places-of-requires c κs =
     let s = c .before .before .before .before .before .before .before .before .before .before in
     has-pointers (where-blocks-are s) (c .block-at2 .result .now) (c .block-at2 .ensures)
 
+-- the table and the pointer block read
+blocks-read : (c : tie.After-places-of)
+    → let at-block-at2 = c .before in
+    let at-rows-of = at-block-at2 .before .before .before .before in
+    Readable (at-rows-of .before .block-at .result .now) (at-rows-of .rows-of .result)
+    (at-block-at2 .block-at2 .result .now) (c .places-of .result)
+blocks-read c =
+    let at-block-at2 = c .before in
+    let at-rows-of = at-block-at2 .before .before .before .before in
+    let at-block-at = at-rows-of .before in
+    let s = at-block-at .before .before .before .before .before in
+    readable (where-blocks-are s) (at-block-at .block-at .result .now) (at-block-at2 .block-at2 .result .now)
+    (at-rows-of .rows-of .result) (c .places-of .result) (at-block-at .block-at .ensures)
+    (at-block-at2 .block-at2 .ensures) (at-rows-of .rows-of .ensures) (c .places-of .ensures)
+
+enough-places-requires : tie.Need-enough-places-requires
+enough-places-requires c κs = (blocks-read c, is-counted (c .before .before .before .before .before .before))
+
+refuse-requires-3 : tie.Need-refuse-requires-3
+refuse-requires-3 c κs = search needs
+
+returns-2 : tie.Need-returns-2
+returns-2 c =
+    let at-if2 = c .before in
+    let at-enough-places = at-if2 .before in
+    let at-block-at2 = at-enough-places .before .before in
+    let at-if1 = at-block-at2 .before in
+    let at-is-erased = at-if1 .before in
+    let at-slot-start = at-is-erased .before in
+    let at-block-at = at-slot-start .before .before in
+    let at-enum-told = at-block-at .before in
+    let at-ask-slot = at-enum-told .before .before in
+    let s = at-ask-slot .before .before in
+    let a = s .args in
+    returns-refused (a .setting) (a .image .now) (a .v) (enable (a .slot .0)) (c .refuse3 .result) (numbered 15)
+    (c .refuse3 .ensures)
+    (enable-refused-15 (a .setting) (a .image .now) (a .v) (s .pre) (a .slot .0) (at-ask-slot .ask-slot .result)
+    (at-ask-slot .ask-slot .ensures) (at-enum-told .enum-told .given .1) (at-block-at .block-at .result .now)
+    (at-block-at .block-at .ensures .0) (at-slot-start .slot-start .result) (at-slot-start .slot-start .ensures)
+    (sym (at-is-erased .is-erased .ensures) ∙ at-if1 .if1 .left)
+    (at-block-at2 .block-at2 .result .now) (at-block-at2 .block-at2 .ensures .0)
+    (sym (at-enough-places .enough-places .ensures) ∙ not-true _ (at-if2 .if2 .taken)))
+
 cast-at0 : tie.Need-cast-at0
 cast-at0 c =
-    let s = c .before .before .before .before .before .before .before .before .before .before .before .before in
+    let s = c .before .before .before .before .before .before .before .before .before .before .before .before .before .before in
     let l = where-blocks-are s in omega (arith, l .cpb0-inside, l .short)
 
 cast-at1 : tie.Need-cast-at1
 cast-at1 c =
-    let s = c .before .before .before .before .before .before .before .before .before .before .before .before .before in
+    let s = c .before .before .before .before .before .before .before .before .before .before .before .before .before .before .before in
     let l = where-blocks-are s in omega (arith, l .cpb1-inside, l .short)
 
 enable-job-requires : tie.Need-enable-job-requires
 enable-job-requires c κs =
-    let at-places-of = c .before .before in
-    let at-block-at2 = at-places-of .before in
-    let at-slot-start = at-block-at2 .before .before .before in
-    let at-rows-of = at-slot-start .before in
-    let at-block-at = at-rows-of .before in
-    let s = at-block-at .before .before .before .before .before in (
+    let at-if2 = c .before .before in
+    let at-enough-places = at-if2 .before in
+    let at-places-of = at-enough-places .before in
+    let at-slot-start = at-places-of .before .before .before .before in (
       (
-        readable (where-blocks-are s) (at-block-at .block-at .result .now) (at-block-at2 .block-at2 .result .now)
-            (at-rows-of .rows-of .result) (at-places-of .places-of .result) (at-block-at .block-at .ensures)
-            (at-block-at2 .block-at2 .ensures) (at-rows-of .rows-of .ensures) (at-places-of .places-of .ensures),
-        is-counted at-block-at,
+        blocks-read at-places-of,
+        sym (at-enough-places .enough-places .ensures) ∙ not-false _ (at-if2 .if2 .left),
       ),
       at-slot-start .slot-start .ensures,
     )
@@ -137,8 +178,8 @@ enable-job-requires c κs =
 begun-requires : tie.Need-begun-requires
 begun-requires c κs = search needs
 
-returns-2 : tie.Need-returns-2
-returns-2 c =
+returns-3 : tie.Need-returns-3
+returns-3 c =
     let at-asked = c .before .before in
     let at-ask-slot = at-asked .before .before in
     let s = at-ask-slot .before .before in
@@ -150,10 +191,12 @@ returns-2 c =
     (at-ask-slot .ask-slot .ensures) (at-asked .asked .given .0 .0)
     (at-asked .asked .given .1))
 
-returns-3 : tie.Need-returns-3
-returns-3 c =
+returns-4 : tie.Need-returns-4
+returns-4 c =
     let at-enable-job = c .before in
-    let at-block-at2 = at-enable-job .before .before .before .before in
+    let at-if2 = at-enable-job .before .before .before in
+    let at-enough-places = at-if2 .before in
+    let at-block-at2 = at-enough-places .before .before in
     let at-if1 = at-block-at2 .before in
     let at-is-erased = at-if1 .before in
     let at-slot-start = at-is-erased .before in
@@ -166,8 +209,9 @@ returns-3 c =
     (at-ask-slot .ask-slot .ensures) (at-enum-told .enum-told .given .1) (at-block-at .block-at .result .now)
     (at-block-at .block-at .ensures .0) (at-slot-start .slot-start .result) (at-slot-start .slot-start .ensures)
     (sym (at-is-erased .is-erased .ensures) ∙ at-if1 .if1 .left)
-    (at-block-at2 .block-at2 .result .now) (c .begun .result) (at-enable-job .enable-job .result)
-    (at-block-at2 .block-at2 .ensures .0) (c .begun .ensures) (at-enable-job .enable-job .ensures)
+    (at-block-at2 .block-at2 .result .now) (at-block-at2 .block-at2 .ensures .0)
+    (sym (at-enough-places .enough-places .ensures) ∙ not-false _ (at-if2 .if2 .left))
+    (c .begun .result) (at-enable-job .enable-job .result) (c .begun .ensures) (at-enable-job .enable-job .ensures)
 
 pub enable-by-spec : {M : Type 1} → statement M
 enable-by-spec =
@@ -185,9 +229,12 @@ enable-by-spec =
     returns
     block-at-requires-2
     places-of-requires
+    enough-places-requires
+    refuse-requires-3
+    returns-2
     cast-at0
     cast-at1
     enable-job-requires
     begun-requires
-    returns-2
-    returns-3)
+    returns-3
+    returns-4)

@@ -6,7 +6,7 @@ use Rattle.rules.specs.Table.{starts}
 use Rattle.rules.specs.Pointers.{places}
 use Rattle.rules.specs.Copies.{order-by}
 use Rattle.rules.specs.Commands.{free-place}
-use Rattle.rules.proofs.Pointers.PointerHeader.{layout, places-fit}
+use Rattle.rules.proofs.Pointers.PointerHeader.{places-fit}
 use Rattle.places.specs.Inner.PlacesOf.{free-from}
 use Rattle.places.proofs.Free.{free-by-value, offset-is, count-is, free-is}
 use Rattle.commands.proofs.CommandJobs.{enable-none, enable-place, enable-rewrite}
@@ -45,7 +45,7 @@ one-place-requires c κs =
     let s = c .before .before .before .before .before .before in
     let p = s .args .p .now in
     let h = s .pre .0 .0 .pointers in
-    omega (arith, layout p (h .block .stands) .1, count-is p (s .args .places) h)
+    omega (arith, places-fit p (h .block .stands) .at-most-508, count-is p (s .args .places) h)
 
 cast-into-places : tie.Need-cast-into-places
 cast-into-places c =

@@ -7,7 +7,7 @@ use lib.ListN.{length}
 use borrow.Author.Needs.{needs}
 use Rattle.rules.specs.Table.{starts, entries}
 use Rattle.rules.specs.Copies.{order-by}
-use Rattle.rules.proofs.Pointers.PointerHeader.{layout}
+use Rattle.rules.proofs.Pointers.PointerHeader.{places-fit}
 use Rattle.places.proofs.Free.{count-is, free-places}
 use Rattle.places.proofs.BootOrder.{MetFrom, none-met, met-down, places-left, all-met}
 use Rattle.places.proofs.order.order_length.Statement.{statement}
@@ -48,7 +48,7 @@ add-len : tie.Need-add-len Inv-loop μ-loop
 add-len c =
     let test = c .before .before in
     let start = test .before .before .before .before .before in
-    omega (arith, left test, layout (start .args .p .now) (start .pre .1 .block .stands))
+    omega (arith, left test, places-fit (start .args .p .now) (start .pre .1 .block .stands) .at-most-508)
 
 loop-less : tie.Need-loop-less Inv-loop μ-loop
 loop-less c = omega (arith, left (c .before .before))

@@ -8,7 +8,7 @@ use borrow.Author.Needs.{needs}
 use Rattle.rules.specs.Table.{starts, entries}
 use Rattle.rules.specs.Pointers.{places, order}
 use Rattle.rules.specs.Copies.{order-by}
-use Rattle.rules.proofs.Pointers.PointerHeader.{layout}
+use Rattle.rules.proofs.Pointers.PointerHeader.{places-fit}
 use Rattle.places.proofs.Free.{none-above, count-is, free-places}
 use Rattle.places.proofs.BootOrder.{in-front, order-grows, MetFrom, none-met, met-down, row-down, places-left, all-met}
 use Rattle.places.proofs.order.write_order.Statement.{statement}
@@ -67,7 +67,7 @@ add-at : tie.Need-add-at Inv-loop μ-loop
 add-at c =
     let test = c .before .before .before .before .before .before in
     let start = test .before .before .before .before .before .before in
-    omega (arith, left test, layout (start .args .p .now) (start .pre .0 .1 .block .stands))
+    omega (arith, left test, places-fit (start .args .p .now) (start .pre .0 .1 .block .stands) .at-most-508)
 
 loop-less : tie.Need-loop-less Inv-loop μ-loop
 loop-less c = omega (arith, left (c .before .before .before .before .before .before))
