@@ -91,13 +91,21 @@ IMAGES = {
     "entries_127": with_entries(127),
     "entries_128": with_entries(128),
     "no_bytes": b"",
+    "held": quarry((0x8000, 0x9000, 0xA000), FIXED + QUARRY_SLOTS[:2]),
 }
 
 
-# ---- the cases of document 01, and of document 02, Nos. 2 and 9
+IMAGES["deleted"] = reference.apply(
+    IMAGES["quarry_sent"], reference.start(IMAGES["quarry_sent"], LISTING, ("delete", 2)), LISTING.granule
+)
+
+
+# ---- the cases of document 01, and of document 02, Nos. 2, 9 and 5
 
 
 def title(command):
+    if command[0] == "create":
+        return f"create {command[2]}"
     return command[0] if command[0] == "repair" else f"{command[0]} {command[1]}"
 
 
@@ -240,6 +248,25 @@ def other_shapes():
     yield run
 
 
+def created(run):
+    run.finish("create", b"P4", 0x1000, shown="create P4 4096")
+    table = reference.view(run.image, LISTING).table
+    run.lines.append(f"SPT0 entry {len(reference.entries(table)) - 1} start: {reference.entries(table)[-1].start:016x}")
+    run.order()
+
+
+def slots_come_and_go():
+    run = Run("create in the room of a deleted slot", "quarry")
+    run.finish("delete", 1)
+    run.finish("delete", 2)
+    run.order()
+    created(run)
+    yield run
+    run = Run("create where a place holds the lowest free start", "held")
+    created(run)
+    yield run
+
+
 def in_order(runs):
     """By the numbers of the cases, which the headings begin with."""
     return sorted(runs, key=lambda run: int("".join(c for c in run.lines[0].split(",")[0] if c.isdigit())))
@@ -283,7 +310,7 @@ def tried(image, setting, command):
     except Refused as refusal:
         return f"{title(command)}: refused {refusal.number}"
     old = reference.reading(image, setting)
-    new = reference.booked(old, command)
+    new = reference.booked(old, command, image, setting)
     flash = bytearray(image)
     counts = {"old": 0, "new": 0, "neither": 0}
     inside = wiped_choices(setting.granule)
@@ -303,14 +330,14 @@ def tried(image, setting, command):
 
 POWER_CUTS = ["quarry_sent", "highest_506", "highest_507", "moved_sent", "moved_three"]
 POWER_CUTS += ["first_copies_damaged", "second_copies_damaged"]
-POWER_CUTS += ["four_places", "moved_offset_2048", "two_shapes", "middle", "wide"]
+POWER_CUTS += ["four_places", "moved_offset_2048", "two_shapes", "deleted", "middle", "wide"]
 
 
 def power_cuts():
     commands = []
     for slot in range(3):
-        commands += [("enable", slot), ("disable", slot), ("rename", slot, NEW_NAME)]
-    commands.append(("repair",))
+        commands += [("enable", slot), ("disable", slot), ("rename", slot, NEW_NAME), ("delete", slot)]
+    commands += [("create", NEW_NAME, 0x1000), ("repair",)]
     for name in POWER_CUTS:
         setting = {"middle": MIDDLE, "wide": WIDE}.get(name, LISTING)
         yield f"{name}.img, each erase cut {len(wiped_choices(setting.granule))} times"
@@ -331,8 +358,12 @@ def main():
         "quarry_cases",
         ["quarry", "quarry_sent", "highest_506", "highest_507", "moved"]
         + ["entries_127", "entries_128", "no_bytes", "last_byte_sent"]
-        + ["offset_0x28", "one_place", "four_places", "two_shapes"],
-        [line for run in in_order(cases()) + list(empty_slots()) + list(other_shapes()) for line in run.lines],
+        + ["offset_0x28", "one_place", "four_places", "two_shapes", "held"],
+        [
+            line
+            for run in in_order(cases()) + list(empty_slots()) + list(other_shapes()) + list(slots_come_and_go())
+            for line in run.lines
+        ],
     )
     write("power_cuts", POWER_CUTS, list(power_cuts()))
 

@@ -353,6 +353,36 @@ def with_name(table, slot, new):
     return table[:at] + new.ljust(16, b"\0") + table[at + 16 :]
 
 
+def lowest_start(table, pointers, image_length, length):
+    """The lowest multiple of 4,096 at which a new slot may start, or none."""
+    held = [number(place) for place in places(pointers)]
+    for start in range(0, image_length - length + 1, BLOCK):
+        new = Entry(b"", start, length, 0)
+        if start not in held and not any(overlap(new, e) for e in entries(table)):
+            return start
+    return None
+
+
+def with_count(table, count):
+    return table[:8] + count.to_bytes(4, "little") + table[12:]
+
+
+def with_slot(table, new, start, length):
+    """The new entry comes last."""
+    count = len(entries(table))
+    at = ENTRIES_AT + ENTRY_SIZE * count
+    table = table[:at] + make_entry(new, start, length, 0) + table[at + ENTRY_SIZE :]
+    return with_count(table, count + 1)
+
+
+def without_slot(table, slot):
+    """The rows after it close up, and the uncounted ones are zero."""
+    found = entries(table)
+    row, end = found.index(slots(table)[slot]), ENTRIES_AT + ENTRY_SIZE * len(found)
+    at = ENTRIES_AT + ENTRY_SIZE * row
+    return with_count((table[:at] + table[at + ENTRY_SIZE : end]).ljust(BLOCK, b"\0"), len(found) - 1)
+
+
 def pair_agrees(image, stands, at0, at1):
     return stands(block(image, at0)) and stands(block(image, at1)) and block(image, at0) == block(image, at1)
 
@@ -372,6 +402,21 @@ def start(image, setting, command):
         return steps
     if not tables_agree or not pointers_agree:
         raise Refused(6)
+    if command[0] == "create":
+        new, length = command[1:]
+        if not 1 <= len(new) <= 15 or 0 in new or new in SIX:
+            raise Refused(9)
+        if any(name(e) == new for e in entries(v.table)):
+            raise Refused(10)
+        if length == 0 or length % BLOCK != 0:
+            raise Refused(40)
+        if len(entries(v.table)) == 127:
+            raise Refused(41)
+        at = lowest_start(v.table, v.pointers, len(image), length)
+        if at is None:
+            raise Refused(42)
+        data = with_slot(v.table, new, at, length)
+        return rewrite(setting.spt1, data) + rewrite(setting.spt0, data)
     slot = command[1]
     if slot >= len(slots(v.table)):
         raise Refused(7)
@@ -385,6 +430,11 @@ def start(image, setting, command):
         if slot not in order:
             raise Refused(8)
         return disable(v, starts, order, slot)
+    if command[0] == "delete":
+        if slot in order:
+            raise Refused(43)
+        data = without_slot(v.table, slot)
+        return rewrite(setting.spt1, data) + rewrite(setting.spt0, data)
     new = command[2]
     if not 1 <= len(new) <= 15 or 0 in new or new in SIX:
         raise Refused(9)
@@ -400,11 +450,16 @@ def start(image, setting, command):
 # ---- the book
 
 
-def booked(read, command):
-    """The reading that the book holds after a command that was finished."""
+def booked(read, command, image, setting):
+    """The reading that the book holds after a command that was finished on a flash."""
     if command[0] == "repair":
         return read
+    if command[0] == "create":
+        at = lowest_start(read.table, view(image, setting).pointers, len(image), command[2])
+        return Reading(with_slot(read.table, command[1], at, command[2]), read.order)
     slot = command[1]
+    if command[0] == "delete":
+        return Reading(without_slot(read.table, slot), [s - 1 if s > slot else s for s in read.order])
     rest = [s for s in read.order if s != slot]
     if command[0] == "enable":
         return Reading(read.table, [slot] + rest)

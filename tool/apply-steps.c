@@ -244,6 +244,9 @@ static int ask_mtd(struct target *target) {
     struct mtd_info_user info;
     if (ioctl(target->file, MEMGETINFO, &info) != 0)
         return say(INPUT_OUTPUT, "%s is a device but no flash (/dev/mtdN)", target->path);
+    if (info.type != MTD_NORFLASH && info.type != MTD_RAM)
+        return say(INPUT_OUTPUT, "%s is no NOR flash: its bytes cannot be programmed one by one. Nothing was touched",
+                   target->path);
     target->is_mtd = 1;
     target->length = info.size;
     target->erase_size = info.erasesize;

@@ -1,11 +1,12 @@
 //! The scripts that are stored with what they print: worked examples, then random ones.
 
 use crate::cases::errors::write_error;
-use crate::cases::flash::Flash;
+use crate::cases::flash::{partition, Flash};
 use crate::cases::random::Random;
 use crate::cases::scenario::write_script;
 use crate::cases::script::{Script, Writer};
 use crate::cases::tally::Tally;
+use crate::document::pointers::{Shape, OFFSET_FIELD};
 use crate::document::table::RULES;
 use crate::replay::hex;
 
@@ -54,7 +55,7 @@ fn worked_examples(tally: &mut Tally) -> Vec<Script> {
     let mut scripts = Vec::new();
     let split = |lines: &str| lines.split("; ").map(str::to_string).collect();
     let examples = examples().into_iter().map(|(title, flash, lines)| (title, flash, split(lines)));
-    for (title, flash, lines) in examples.chain([broken_rules()]) {
+    for (title, flash, lines) in examples.chain([broken_rules(), shapes()]) {
         let mut writer = Writer::new(tally, None);
         writer.line(format!("# {title}"));
         writer.build(&flash);
@@ -109,6 +110,48 @@ fn broken_rules() -> (&'static str, Flash, Vec<String>) {
     ("document 02, No. 8: every rule broken in both tables, then with the next one", flash, lines)
 }
 
+/// Offsets and counts that stand, and such as just do not.
+const SHAPES: [(u32, u32); 22] = [
+    (0x20, 508),
+    (0x20, 509),
+    (0x20, 1),
+    (0x20, 0),
+    (0x18, 508),
+    (0x1C, 508),
+    (0x24, 507),
+    (0x28, 507),
+    (0x28, 508),
+    (2048, 256),
+    (2048, 257),
+    (4080, 2),
+    (4080, 3),
+    (4088, 1),
+    (4088, 2),
+    (4088, 0),
+    (4092, 1),
+    (4096, 0),
+    (4096, 1),
+    (u32::MAX - 7, u32::MAX),
+    (0x20, u32::MAX),
+    (0x20, 1 << 29 | 508),
+];
+
+/// Every such shape told in both pointer blocks.
+fn shapes() -> (&'static str, Flash, Vec<String>) {
+    let flash = Flash::quarry();
+    let [cpb0, cpb1] = flash.pointer_addresses();
+    let mut lines = Vec::new();
+    for (offset, count) in SHAPES {
+        let fields = hex(&[offset, count].map(u32::to_le_bytes).concat());
+        let puts =
+            [cpb0, cpb1].map(|block| format!("put {} {fields}", block + OFFSET_FIELD as u64));
+        lines.extend(puts);
+        lines.push("order".to_string());
+        lines.push(format!("dumps {cpb0} 4096 {cpb1} 4096"));
+    }
+    ("document 02, No. 9: which offsets and counts stand", flash, lines)
+}
+
 /// The cases of the documents on the quarry image, and the vendor's example. In CPB0 of the quarry
 /// image, places 2, 3 and 507 are at 24624, 24632 and 28664.
 fn examples() -> Vec<(&'static str, Flash, &'static str)> {
@@ -157,6 +200,73 @@ fn examples() -> Vec<(&'static str, Flash, &'static str)> {
     let other_setting = "list; put 159784 00000800000000ff; put 163880 00000800000000ff; rename 0 20ff7e; run 8202; list";
     let refused = "put 16384 00; put 20480 00; list; put 20480 27; put 20488 00; list; order; \
         box 1 16384 20480; list; box 4096 16384 16384; list; length 0; list; image 65536 0; list";
+    let shaped = |offset: usize, count: usize, places: &[u64]| {
+        sent().shaped(Shape { offset, count }, places)
+    };
+    let next_edition =
+        "order; enable 2; run 16; peek 24632 8; order; list; disable 0; run 16; list";
+    let last_place = "order; enable 0; enable 1; enable 2; enable 3; disable 1; put 36864 ff; \
+        enable 1; put 36864 00; disable 0; run 16; list; enable 1; run 8202; order; enable 0; \
+        enable 1";
+    let behind = "put 24640 00a0000000000000; put 28736 00a0000000000000; put 28671 07; \
+        put 32767 07; order; list; enable 2; run 8202; peek 24592 56; peek 28671 1; order; \
+        enable 0; run 16; peek 24608 40; enable 1; cut 4102; order; repair; run 4101; order; list";
+    let before = "put 24608 0080000000000000; put 28704 0080000000000000; put 24630 0102; \
+        put 28726 0102; put 24648 0304; put 28744 0304; order; disable 1; run 16; enable 1; \
+        run 8202; peek 24592 64; order; enable 2; enable 0; run 8202; peek 24592 64; order";
+    let clash = "put 28692 fb; order; enable 1; disable 1; rename 1 41; repair; run 4101; repair; \
+        put 24592 28000000fb010000; order; list; enable 1; repair; run 4101; peek 28688 8; enable 1; \
+        put 24596 00; order; repair";
+    let without_p3 = |places: &[u64]| {
+        let mut partitions = quarry().partitions;
+        partitions.pop();
+        Flash::new(65_536, 4096, partitions, places)
+    };
+    let reused = "delete 2; run 8202; order; slot 2; peek 16392 4; peek 16640 64; \
+        create 4096 5034; run 8202; slot 2; peek 16392 4; peek 16640 96; order; list";
+    let held =
+        "create 4096 5034; run 8202; slot 2; order; list; create 4096 5035; run 8202; slot 3";
+    let not_created = "create 4096; create 0 53505430; create 4096 410042; \
+        create 4096 4e4e4e4e4e4e4e4e4e4e4e4e4e4e4e4e; create 0 5032; create 0 5034; create 1 5034; \
+        create 4095 5034; create 4294967295 5034; create 24576 5034; create 4294963200 5034; \
+        create 20480 5034; run 8202; slot 3; create 4096 5035; create 0 5035; delete 3; run 8202; \
+        create 20480 5035; put 20492 01; create 0; create 4096 5035; repair; run 4101; \
+        create 4096 5035; cut 0; put 16384 00; put 20480 00; create 0; delete 9";
+    let not_deleted = "delete 0; delete 1; delete 3; delete 4294967295; put 20492 01; delete 3; \
+        repair; run 4101; disable 0; run 16; delete 0; run 8202; order; slot 0; slot 1; slot 2; \
+        list; delete 0; delete 1; run 8202; order; delete 1; put 24616 0000000000000000; \
+        put 28712 0000000000000000; delete 0; run 8202; order; delete 0";
+    let numbers_move =
+        "order; delete 0; cut 4105; slot 0; slot 1; order; delete 0; repair; run 4101; \
+        delete 0; run 8202; slot 0; order";
+    let junk = "put 16396 0102030405060708; put 16704 aaaaaaaaaaaaaaaaeeeeeeeeeeeeeeee; \
+        copy 16704 16720 16; copy 16704 16736 32; put 20479 01; copy 16384 20480 4096; \
+        create 4096 5034; run 8202; peek 16384 32; peek 16672 96; peek 20479 1; delete 2; run 8202; \
+        peek 16384 32; peek 16640 128; peek 20479 1; slot 2";
+    let gaps = || {
+        let mut partitions = quarry().partitions;
+        partitions.push(partition("Q", 0x1_0000, 0x2000, 0));
+        Flash::new(0x1_8000, 4096, partitions, &[0x8000, 0xB000, 0xC001, 0x1_3000])
+    };
+    let where_free = "create 16384 41; run 8202; slot 4; create 24576 42; run 8202; slot 5; \
+        create 4096 43; delete 4; run 8202; create 20480 43; create 8192 43; run 8202; slot 5; \
+        create 4096 44; run 8202; slot 6; create 4096 45; run 8202; slot 7; create 4096 46; order; \
+        put 24616 0000000000000000; put 28712 0000000000000000; create 4096 46; run 8202; slot 8; \
+        order; create 4096 47";
+    let cut_create = "create 4096 5034; cut 0; create 4096 5034; cut 4101; slot 3; repair; cut 4; \
+        slot 3; repair; run 4101; create 4096 5034; torn 4105 0 3 9 1; slot 3; order; repair; \
+        run 4101; slot 3; create 4096 5034; delete 3; torn 4 0 4096; slot 3; repair; run 4101; \
+        delete 3; cut 4102; slot 3; repair; run 4101; create 8192 5034; run 8202; slot 3";
+    let full = "create 4096 41; run 8202; slot 120; create 0 42; create 4096 42; create 4294963200 42; \
+        delete 120; run 8202; peek 20448 32; create 8192 42; run 8202; slot 120; delete 2; run 8202; \
+        slot 119; delete 119; cut 0; create 4096 43; run 8202; slot 120; create 4096 44; order";
+    let many = || {
+        let mut partitions = quarry().partitions;
+        for number in partitions.len() as u64..126 {
+            partitions.push(partition(&format!("S{number}"), (number + 7) * 0x1000, 0x1000, 0));
+        }
+        Flash::new(0x9_0000, 4096, partitions, &[0x8000, 0x9000])
+    };
     let vendor = "order; slot 0; slot 1; slot 2; enable 1; run 16; order";
     vec![
         ("document 01, case 1", quarry(), "order; order 2; order 1; slot 0"),
@@ -190,5 +300,39 @@ fn examples() -> Vec<(&'static str, Flash, &'static str)> {
         ("document 02, No. 7: live, half-cleared and doubled places", case_9(), half_cleared),
         ("document 02, No. 7: a listing of another setting", Flash::vendor(), other_setting),
         ("document 02, No. 7: refused listings", quarry(), refused),
+        (
+            "document 02, No. 9: offset 0x28 with 507 places",
+            shaped(0x28, 507, &[0x8000, 0x9000]),
+            next_edition,
+        ),
+        ("document 02, No. 9: one place at the end", shaped(4088, 1, &[0x8000]), last_place),
+        (
+            "document 02, No. 9: four places and bytes behind them",
+            shaped(0x20, 4, &[0x8000, 0x8000, 0x8000, 0x9000]),
+            behind,
+        ),
+        (
+            "document 02, No. 9: two places and bytes before and behind them",
+            shaped(0x38, 2, &[0x8000, 0x9000]),
+            before,
+        ),
+        ("document 02, No. 9: copies of different shape", sent(), clash),
+        ("document 02, No. 5: P3 deleted, P4 created in its room", quarry(), reused),
+        (
+            "document 02, No. 5: P4 where no place points",
+            without_p3(&[0x8000, 0x9000, 0xA000]),
+            held,
+        ),
+        ("document 02, No. 5: refused creates", quarry(), not_created),
+        ("document 02, No. 5: refused deletes", quarry(), not_deleted),
+        (
+            "document 02, No. 5: slot numbers move after a cut delete",
+            Flash::quarry_with(65_536, 0x8000, 0x9000, &[0xA000]),
+            numbers_move,
+        ),
+        ("document 02, No. 5: bytes that are kept and rows that become zero", quarry(), junk),
+        ("document 02, No. 5: which room is used", gaps(), where_free),
+        ("document 02, No. 5: cuts", quarry(), cut_create),
+        ("document 02, No. 5: tables of 126 and 127 entries", many(), full),
     ]
 }

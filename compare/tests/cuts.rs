@@ -3,9 +3,10 @@
 
 use compare::cases::flash::Flash;
 use compare::cases::random::Random;
-use compare::document::book::{Book, Outcome};
+use compare::document::book::{Book, Item, Outcome};
 use compare::document::commands::{start, Command};
 use compare::document::image::Geometry;
+use compare::document::pointers::Shape;
 use compare::document::reading::View;
 use compare::document::shortcut::Shortcut;
 use compare::document::steps::{Job, Step};
@@ -25,10 +26,28 @@ fn half_cleared() -> Flash {
     Flash::quarry_with(73_728, 0x1_1000, 0x1_0000, &places).with_first_bytes()
 }
 
-/// Flash of all three granules.
+/// Pointer blocks of four places, between other bytes: one in use, one full.
+fn shaped(places: &[u64]) -> Flash {
+    let shape = Shape { offset: 0x38, count: 4 };
+    let mut flash = half_cleared().shaped(shape, places);
+    flash.pointers[0x20..0x38].fill(0);
+    let behind = flash.pointers[shape.end()..].chunks_exact_mut(8);
+    behind.for_each(|bytes| bytes.copy_from_slice(&0x1_0000u64.to_le_bytes()));
+    flash
+}
+
+/// Flash of all three granules, and with pointer blocks of another shape.
 fn flashes() -> Vec<Flash> {
     let wide = |times| Flash::quarry_wide(times).with_first_bytes();
-    vec![quarry(&[0x8000, 0x9000, 0x8000]), full(), half_cleared(), wide(8), wide(16)]
+    vec![
+        quarry(&[0x8000, 0x9000, 0x8000]),
+        full(),
+        half_cleared(),
+        wide(8),
+        wide(16),
+        shaped(&[0x1_0000, 0xA000, 0x1_1000]),
+        shaped(&[0x1_1000, 0xA000, 0xA000, 0x1_1000]),
+    ]
 }
 
 fn commands() -> Vec<Command> {
@@ -36,6 +55,8 @@ fn commands() -> Vec<Command> {
     let mut commands: Vec<Command> = slots().map(Command::Enable).collect();
     commands.extend(slots().map(Command::Disable));
     commands.push(Command::Rename(1, b"ANOTHER".to_vec()));
+    commands.push(Command::Create(0x1000, b"NEW".to_vec()));
+    commands.extend(slots().map(Command::Delete));
     commands
 }
 
@@ -110,21 +131,22 @@ fn cut_everywhere(image: &[u8], job: &Job, judge: impl Fn(&[u8]) -> bool) -> Fou
 
 /// Whether the book has a choice for the cut, and a repair then makes the pairs agree.
 fn fits(before: &[u8], cut: &[u8], geometry: &Geometry, command: &Command) -> bool {
-    let reading = View::of(before, geometry).expect("a flash that stands").reading();
-    let mut book = Book::begin(reading);
+    let got = View::of(before, geometry).expect("a flash that stands");
+    let mut book = Book::begin(got.reading());
     let Ok(view) = View::of(cut, geometry) else {
         return false;
     };
-    if book.enter(command, Outcome::Cut, &view.reading()).is_none() {
+    if book.enter(&Item::of(command, &got), Outcome::Cut, &view.reading()).is_none() {
         return false;
     }
+    let repair_item = Item::of(&Command::Repair, &view);
     let mut repaired = cut.to_vec();
     let mut repair: Job = start(cut, geometry, &Command::Repair, None).expect("a repair");
     if repair.remaining() > 0 {
         repair.run(&mut repaired, u64::MAX).expect("all steps");
     }
     let view = View::of(&repaired, geometry).expect("a flash that stands");
-    let choice = book.enter(&Command::Repair, Outcome::Finished, &view.reading());
+    let choice = book.enter(&repair_item, Outcome::Finished, &view.reading());
     choice.is_some() && view.tables_agree() && view.pointers_agree()
 }
 
@@ -176,5 +198,31 @@ fn a_cut_repair_changes_nothing_that_is_read() {
             let judge = |cut: &[u8]| fits(&image, cut, &geometry, &Command::Repair);
             assert_eq!(cut_everywhere(&image, &repair, judge).broken, 0);
         }
+    }
+}
+
+/// A delete of the last slot or another, and then the create of a slot in its room, cut everywhere.
+#[test]
+fn a_create_in_deleted_room() {
+    let spent = [0x8000, 0, 0x9000, 0x8000];
+    let free_start_held = [0xA000, 0xB000, 0x9000];
+    for (places, deleted) in [(&spent[..], 2), (&free_start_held[..], 0)] {
+        let flash = quarry(places);
+        let (mut image, geometry) = (flash.image(), flash.geometry());
+        let start_of = |image: &[u8], slot: usize| {
+            View::of(image, &geometry).expect("a flash that stands").table.starts[slot]
+        };
+        let freed = start_of(&image, deleted as usize);
+        let delete = Command::Delete(deleted);
+        let mut job = start(&image, &geometry, &delete, None).expect("a job");
+        let judge = |cut: &[u8]| fits(&image, cut, &geometry, &delete);
+        assert_eq!(cut_everywhere(&image, &job, judge).broken, 0);
+        job.run(&mut image, u64::MAX).expect("all steps");
+        let create = Command::Create(0x1000, b"NEW".to_vec());
+        let mut job = start(&image, &geometry, &create, None).expect("a job");
+        let judge = |cut: &[u8]| fits(&image, cut, &geometry, &create);
+        assert_eq!(cut_everywhere(&image, &job, judge).broken, 0);
+        job.run(&mut image, u64::MAX).expect("all steps");
+        assert_eq!(start_of(&image, 2), freed);
     }
 }

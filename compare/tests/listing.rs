@@ -3,7 +3,7 @@
 use compare::cases::flash::{partition, Flash};
 use compare::document::commands::{start, Command};
 use compare::document::listing::Listing;
-use compare::document::pointers::{judge, place_offset, Judgement, PLACES};
+use compare::document::pointers::{judge, Judgement, Shape, PLACES_MAX};
 use compare::document::reading::View;
 use compare::document::shortcut::Shortcut;
 
@@ -22,7 +22,7 @@ fn with_places(places: &[(usize, u64)]) -> Vec<String> {
     let flash = Flash::quarry();
     let mut image = flash.image();
     for &(place, value) in places {
-        let at = CPB0 + place_offset(place);
+        let at = CPB0 + Shape::OLD_EDITION.place_offset(place);
         image[at..at + 8].copy_from_slice(&value.to_le_bytes());
     }
     listed(&flash, &image)
@@ -71,7 +71,8 @@ fn each_kind_at_either_end_and_between() {
 
 #[test]
 fn every_place_dead() {
-    let places: Vec<(usize, u64)> = (0..PLACES).map(|place| (place, place as u64 % 2)).collect();
+    let places: Vec<(usize, u64)> =
+        (0..PLACES_MAX).map(|place| (place, place as u64 % 2)).collect();
     let listed = with_places(&places);
     assert_eq!(listed[..3], [HEADER, "", SECOND_HEADER]);
     assert_eq!(listed[3..5], ["0 spent 0", "1 stray 1"]);

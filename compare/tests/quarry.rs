@@ -3,7 +3,7 @@
 use compare::cases::flash::{partition, Flash};
 use compare::document::commands::{start, Command};
 use compare::document::image::{u64_at, Geometry};
-use compare::document::pointers::{place_offset, PLACES};
+use compare::document::pointers::{Shape, PLACES_MAX};
 use compare::document::reading::{order_list, View};
 use compare::document::refusal::Refusal;
 use compare::document::shortcut::Shortcut;
@@ -57,7 +57,7 @@ impl Bench {
     }
 
     fn place(&self, block: usize, place: usize) -> u64 {
-        u64_at(&self.image, block + place_offset(place))
+        u64_at(&self.image, block + Shape::OLD_EDITION.place_offset(place))
     }
 }
 
@@ -274,8 +274,8 @@ fn a_rewriting_step_by_step() {
 
 #[test]
 fn budgets_do_the_listed_steps_one_by_one() {
-    let mut whole = quarry_used_up_to(PLACES - 1);
-    let mut bench = quarry_used_up_to(PLACES - 1);
+    let mut whole = quarry_used_up_to(PLACES_MAX - 1);
+    let mut bench = quarry_used_up_to(PLACES_MAX - 1);
     let mut job = bench.start(Command::Enable(2)).expect("a job");
     let mut next = job.next_step();
     while let Some(step) = next {

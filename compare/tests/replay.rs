@@ -113,3 +113,39 @@ fn listings() {
     let expected = ["refused 2", "refused 1", "refused 1", &error];
     assert_prints(&Flash::quarry(), &lines, &expected);
 }
+
+#[test]
+fn creates_and_deletes() {
+    let quarry = Flash::quarry();
+    let lines =
+        ["create 4096 5034", "run 8202", "slot 3", "order", "delete 2", "run 9000", "slot 2"];
+    let created = "slot 3 9 5034 45056 4096 0";
+    let moved = "slot 2 8 5034 45056 4096 0";
+    let expected = ["job 8202", "ran 8202", created, "order 1 0", "job 8202", "ran 8202", moved];
+    assert_prints(&quarry, &lines, &expected);
+    // An empty name, a name of 16 bytes and one that is there; lengths; room; the order; no slot.
+    let long = format!("create 0 {}", "41".repeat(16));
+    let lines =
+        ["create 4096", &long, "create 0 5031", "create 0 41", "create 24576 41", "delete 0"];
+    let expected =
+        ["refused 9", "refused 9", "refused 10", "refused 40", "refused 42", "refused 43"];
+    assert_prints(&quarry, &lines, &expected);
+    assert_prints(
+        &quarry,
+        &["create 4294963200 41", "delete 4294967295"],
+        &["refused 42", "refused 7"],
+    );
+    // A refusal drops the job that there was.
+    let lines = ["create 4096 41", "delete 0", "run 1"];
+    let error = format!("error {}", quarry.lines().len() + 3);
+    assert_prints(&quarry, &lines, &["job 8202", "refused 43", &error]);
+    let error = format!("error {}", quarry.lines().len() + 1);
+    for line in
+        ["create", "create 4294967296 41", "create 4096 4", "create 4096 41 42", "create  41"]
+    {
+        assert_prints(&quarry, &[line], &[&error]);
+    }
+    for line in ["delete", "delete 4294967296", "delete 2 2", "delete a"] {
+        assert_prints(&quarry, &[line], &[&error]);
+    }
+}

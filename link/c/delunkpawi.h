@@ -26,6 +26,10 @@
  *   13  the lent row is shorter than the boot order
  *   14  the slot to enable is empty: its first 4,096 bytes are all 0xFF
  *   15  the pointer block has no place for one slot more in the boot order
+ *   40  the length of a new slot is 0 or not a multiple of 4,096
+ *   41  the table has 127 entries already
+ *   42  no start for a new slot of this length
+ *   43  the slot to delete is in the boot order
  *   90  the job's buffer has another length than DELUNKPAWI_JOB_SIZE, or holds no job
  *   91  the bytes lent for a name are too few
  *   92  no such entry
@@ -123,6 +127,16 @@ uint8_t delunkpawi_disable(const uint8_t *image, size_t image_length, size_t gra
 /* The slot gets another name. */
 uint8_t delunkpawi_rename(const uint8_t *image, size_t image_length, size_t granule, size_t spt0, size_t spt1,
                           uint32_t slot, const uint8_t *name, size_t name_length, uint8_t *job, size_t job_length);
+
+/* A new slot with this name and this length, a multiple of 4,096 and not 0. It comes last in the table, at the lowest
+   multiple of 4,096 from which the length fits into the image, overlaps no partition, and which no pointer place holds. */
+uint8_t delunkpawi_create(const uint8_t *image, size_t image_length, size_t granule, size_t spt0, size_t spt1,
+                          const uint8_t *name, size_t name_length, uint32_t length, uint8_t *job, size_t job_length);
+
+/* The slot, which is not in the boot order, leaves the table. The slots after it are then one number lower: after a cut
+   list the slots again before you name a number. */
+uint8_t delunkpawi_delete(const uint8_t *image, size_t image_length, size_t granule, size_t spt0, size_t spt1,
+                          uint32_t slot, uint8_t *job, size_t job_length);
 
 /* Where the two copies of the table or of the pointer block disagree, the copy not read becomes the copy read. */
 uint8_t delunkpawi_repair(const uint8_t *image, size_t image_length, size_t granule, size_t spt0, size_t spt1,

@@ -1,6 +1,7 @@
 /* A command: what it would do, and its job written out if that is asked for. */
 #include "command.h"
 
+#include <inttypes.h>
 #include <stdio.h>
 #include <string.h>
 
@@ -12,21 +13,34 @@
 
 /* ---- The starts, one for each command. */
 
-uint8_t start_enable(const struct flash *flash, const char *const words[2], uint8_t *job) {
-    return delunkpawi_enable(FLASH(flash), slot_called(flash, words[0]), job, DELUNKPAWI_JOB_SIZE);
+uint8_t start_enable(const struct flash *flash, const struct options *options, uint8_t *job) {
+    return delunkpawi_enable(FLASH(flash), slot_called(flash, options->words[0]), job, DELUNKPAWI_JOB_SIZE);
 }
 
-uint8_t start_disable(const struct flash *flash, const char *const words[2], uint8_t *job) {
-    return delunkpawi_disable(FLASH(flash), slot_called(flash, words[0]), job, DELUNKPAWI_JOB_SIZE);
+uint8_t start_disable(const struct flash *flash, const struct options *options, uint8_t *job) {
+    return delunkpawi_disable(FLASH(flash), slot_called(flash, options->words[0]), job, DELUNKPAWI_JOB_SIZE);
 }
 
-uint8_t start_rename(const struct flash *flash, const char *const words[2], uint8_t *job) {
-    return delunkpawi_rename(FLASH(flash), slot_called(flash, words[0]), (const uint8_t *)words[1], strlen(words[1]),
-                             job, DELUNKPAWI_JOB_SIZE);
+uint8_t start_rename(const struct flash *flash, const struct options *options, uint8_t *job) {
+    return delunkpawi_rename(FLASH(flash), slot_called(flash, options->words[0]), (const uint8_t *)options->words[1],
+                             strlen(options->words[1]), job, DELUNKPAWI_JOB_SIZE);
 }
 
-uint8_t start_repair(const struct flash *flash, const char *const words[2], uint8_t *job) {
-    (void)words;
+uint8_t start_create(const struct flash *flash, const struct options *options, uint8_t *job) {
+    return delunkpawi_create(FLASH(flash), (const uint8_t *)options->words[0], strlen(options->words[0]),
+                             options->length, job, DELUNKPAWI_JOB_SIZE);
+}
+
+/* By name alone: after a delete that was cut, a number may already be the next slot's. */
+uint8_t start_delete(const struct flash *flash, const struct options *options, uint8_t *job) {
+    uint32_t slot = slot_named(flash, options->words[0]);
+    if (slot == UINT32_MAX && strspn(options->words[0], "0123456789") > 0)
+        fail(DONE, "--delete takes the slot's name and never a number, because numbers move");
+    return delunkpawi_delete(FLASH(flash), slot, job, DELUNKPAWI_JOB_SIZE);
+}
+
+uint8_t start_repair(const struct flash *flash, const struct options *options, uint8_t *job) {
+    (void)options;
     return delunkpawi_repair(FLASH(flash), job, DELUNKPAWI_JOB_SIZE);
 }
 
@@ -61,10 +75,23 @@ static void answer_block(int block, bool is_first) {
     json_text(block_names[block]);
 }
 
-static void print_names(const struct work *work) {
-    for (size_t slot = 0; slot < work->before.slot_count && slot < work->after.slot_count; slot++) {
-        const struct name *old = &work->before.slots[slot].name, *new = &work->after.slots[slot].name;
-        if (!is_same_name(old, new)) printf("slot %zu:           %s becomes %s\n", slot, printed(old), printed(new));
+/* Slots that are new, that are gone, and that have another name. */
+static void print_slots(const struct work *work) {
+    const struct reading *before = &work->before, *after = &work->after;
+    for (size_t slot = 0; slot < before->slot_count; slot++) {
+        const struct slot *old = &before->slots[slot], *new = slot_starting(after, old->start);
+        if (new == NULL)
+            printf("slot %zu:           %s is deleted\n", slot, printed(&old->name));
+        else if (!is_same_name(&old->name, &new->name))
+            printf("slot %zu:           %s becomes %s\n", slot, printed(&old->name), printed(&new->name));
+        if (new == NULL && slot + 1 < before->slot_count)
+            printf("slot numbers:     each above %zu becomes one lower\n", slot);
+    }
+    for (size_t slot = 0; slot < after->slot_count; slot++) {
+        const struct slot *new = &after->slots[slot];
+        if (slot_starting(before, new->start) == NULL)
+            printf("slot %zu:           %s is new, %s bytes at 0x%" PRIx64 "\n", slot, printed(&new->name),
+                   grouped(new->size), new->start);
     }
 }
 
@@ -74,7 +101,7 @@ static void print_work(const struct work *work) {
     print_order(&work->before);
     printf("boot order after: ");
     print_order(&work->after);
-    print_names(work);
+    print_slots(work);
     if (work->step_count == 0) {
         puts("0 steps: all is as asked already");
         return;
@@ -91,6 +118,7 @@ static void answer_work(const struct work *work) {
     json_key("command"), json_text(work->options->action->name);
     json_key("before"), json_order(&work->before);
     json_key("after"), json_order(&work->after);
+    json_key("slots"), json_slots(&work->after);
     json_key("steps"), json_number(work->step_count);
     json_key("programs"), json_number(kinds.programs);
     json_key("erases"), json_number(kinds.erases);
@@ -110,12 +138,34 @@ static void warn_of_checksum(const struct work *work) {
                    "leaves as it is: ask the vendor before you write this to a box");
 }
 
+static bool is_erased(const uint8_t *bytes, size_t length) {
+    while (length > 0 && bytes[length - 1] == 0xFF) length--;
+    return length == 0;
+}
+
+/* Create does not look at what stands in the room that it takes, and a slot that is not empty may be enabled. */
+static void warn_of_room(const struct work *work) {
+    for (size_t slot = 0; slot < work->after.slot_count; slot++) {
+        const struct slot *new = &work->after.slots[slot];
+        if (slot_starting(&work->before, new->start) != NULL) continue;
+        if (new->start < work->flash->base)
+            fail(DONE, "warning: %s begins at address 0x%zx, and slot %s before it: what stands there is not known",
+                 work->dump->path, work->flash->base, printed(&new->name));
+        else if (!is_erased(work->flash->bytes + new->start, new->size))
+            fail(DONE,
+                 "warning: the room of %s is not erased. Send the image and verify it before you enable the slot: "
+                 "else what stands there may start",
+                 printed(&new->name));
+    }
+}
+
 static void tell(struct work *work) {
     if (work->options->json)
         answer_work(work);
     else
         print_work(work);
     warn_of_checksum(work);
+    warn_of_room(work);
     if (work->options->explain) explain(work);
     if (!work->options->json) return;
     json_close('}');

@@ -6,6 +6,6 @@
 
 int do_command(const struct options *options, const struct dump *dump, struct flash *flash);
 
-start_job start_enable, start_disable, start_rename, start_repair;
+start_job start_enable, start_disable, start_rename, start_create, start_delete, start_repair;
 
 #endif

@@ -158,16 +158,23 @@ static bool has_same_order(const struct reading *one, const struct reading *othe
     return same;
 }
 
-/* What differs from now although the same slot starts: the order, or else names. */
+/* What differs from now although the same slot starts: the order, or else slots and their names. */
 static void print_difference(const struct reading *now, const struct reading *then) {
     if (!has_same_order(now, then)) {
         printf("; the boot order is then: ");
         print_order(then);
         return;
     }
-    for (size_t slot = 0; slot < now->slot_count && slot < then->slot_count; slot++)
-        if (!is_same_name(&now->slots[slot].name, &then->slots[slot].name))
-            printf("; slot %zu is then named %s", slot, printed(&then->slots[slot].name));
+    for (size_t slot = 0; slot < now->slot_count; slot++) {
+        const struct slot *old = &now->slots[slot], *new = slot_starting(then, old->start);
+        if (new == NULL)
+            printf("; %s is then deleted", printed(&old->name));
+        else if (!is_same_name(&old->name, &new->name))
+            printf("; slot %zu is then named %s", slot, printed(&new->name));
+    }
+    for (size_t slot = 0; slot < then->slot_count; slot++)
+        if (slot_starting(now, then->slots[slot].start) == NULL)
+            printf("; slot %zu is then %s, which is new", slot, printed(&then->slots[slot].name));
     putchar('\n');
 }
 

@@ -21,6 +21,7 @@ static const char usage_text[] =
     "  -z, --size SLOT           -p, --priority SLOT\n"
     "  -E, --enable SLOT         -D, --disable SLOT\n"
     "      --rename SLOT NAME        --repair\n"
+    "      --create NAME LENGTH      --delete NAME             a slot is deleted by its name alone: numbers move\n"
     "      --table                   tables, entries, pointer block and its pointers, as U-Boot's `rsu list` shows "
     "them\n"
     "      --map                     a drawing of the flash: partitions, which copies stand and agree, the boot order\n"
@@ -74,13 +75,17 @@ static void make_rows(struct parsing *parsing) {
     memset(parsing->rows + row + sizeof fixed_options / sizeof fixed_options[0], 0, sizeof parsing->rows[0]);
 }
 
-static int take_number(struct given *given, const char *option) {
+static bool is_number(const char *word, unsigned long long *value) {
     char *end;
-    int base = strncmp(optarg, "0x", 2) == 0 || strncmp(optarg, "0X", 2) == 0 ? 16 : 10;
+    int base = strncmp(word, "0x", 2) == 0 || strncmp(word, "0X", 2) == 0 ? 16 : 10;
     errno = 0;
-    unsigned long long value = strtoull(optarg, &end, base);
-    if (strspn(optarg, "0123456789") == 0 || *end != 0 || errno != 0)
-        return fail_usage(option, "a number, as 0x.. or decimal");
+    *value = strtoull(word, &end, base);
+    return strspn(word, "0123456789") > 0 && *end == 0 && errno == 0;
+}
+
+static int take_number(struct given *given, const char *option) {
+    unsigned long long value;
+    if (!is_number(optarg, &value)) return fail_usage(option, "a number, as 0x.. or decimal");
     if (given->is_given && given->value != value) return fail_usage(option, "given twice");
     *given = (struct given){true, value};
     return -1;
@@ -107,6 +112,15 @@ static char *next_word(struct parsing *parsing) {
     return optind < parsing->argc ? parsing->argv[optind++] : NULL;
 }
 
+/* A length has 32 bits; whether one fits the flash is the library's to judge. */
+static int take_length(struct options *options) {
+    unsigned long long length;
+    if (!is_number(options->words[1], &length) || length > UINT32_MAX)
+        return fail_usage("LENGTH", "a number of bytes, as 0x.. or decimal, at most 4,294,967,295");
+    options->length = (uint32_t)length;
+    return -1;
+}
+
 static int take_action(struct parsing *parsing, const struct action *action) {
     struct options *options = parsing->options;
     if (options->action != NULL) return fail_usage("one action at a time", action->name);
@@ -116,7 +130,7 @@ static int take_action(struct parsing *parsing, const struct action *action) {
         parsing->after_list = next_word(parsing);
     if (action->words == 2 && (options->words[1] = next_word(parsing)) == NULL)
         return fail_usage("two words belong to this action", action->name);
-    return -1;
+    return action->has_length ? take_length(options) : -1;
 }
 
 static int take_option(struct parsing *parsing, int option) {

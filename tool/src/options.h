@@ -4,6 +4,7 @@
 
 #include <stdbool.h>
 #include <stddef.h>
+#include <stdint.h>
 
 struct action;
 
@@ -17,7 +18,8 @@ struct given {
 
 struct options {
     const struct action *action;
-    const char *words[2]; /* what follows the action: SLOT, NAME; NULL where none */
+    const char *words[2]; /* what follows the action: SLOT, NAME, LENGTH; NULL where none */
+    uint32_t length;      /* the number that LENGTH is */
     char **images;
     size_t image_count;
     struct given base, spt0, spt1, granule;

@@ -27,7 +27,7 @@ uint8_t read_flash(const struct flash *flash, struct reading *reading) {
     return refused;
 }
 
-static uint32_t slot_named(const struct flash *flash, const char *name) {
+uint32_t slot_named(const struct flash *flash, const char *name) {
     static struct reading reading;
     if (read_flash(flash, &reading) != 0) return UINT32_MAX;
     for (uint32_t slot = 0; slot < reading.slot_count; slot++) {
@@ -43,6 +43,12 @@ uint32_t slot_called(const struct flash *flash, const char *word) {
     if (word[0] == 0 || strspn(word, "0123456789") != strlen(word)) return slot_named(flash, word);
     unsigned long long number = strtoull(word, NULL, 10);
     return number < UINT32_MAX ? (uint32_t)number : UINT32_MAX;
+}
+
+const struct slot *slot_starting(const struct reading *reading, uint64_t start) {
+    for (size_t slot = 0; slot < reading->slot_count; slot++)
+        if (reading->slots[slot].start == start) return &reading->slots[slot];
+    return NULL;
 }
 
 void print_order(const struct reading *reading) {
@@ -82,6 +88,12 @@ void json_slot(const struct reading *reading, uint32_t number) {
 void json_order(const struct reading *reading) {
     json_open('[');
     for (size_t i = 0; i < reading->order_count; i++) json_slot(reading, reading->order[i]);
+    json_close(']');
+}
+
+void json_slots(const struct reading *reading) {
+    json_open('[');
+    for (uint32_t slot = 0; slot < reading->slot_count; slot++) json_slot(reading, slot);
     json_close(']');
 }
 

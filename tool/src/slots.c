@@ -61,9 +61,8 @@ static int list_all(const struct options *options, const struct dump *dump, cons
     if (refused != 0) return answer_refused(dump, options->json, refused);
     if (options->json) {
         json_begin(dump, flash);
-        json_key("slots"), json_open('[');
-        for (uint32_t slot = 0; slot < reading->slot_count; slot++) json_slot(reading, slot);
-        json_close(']'), json_close('}');
+        json_key("slots"), json_slots(reading);
+        json_close('}');
         json_end();
         return DONE;
     }

@@ -85,7 +85,7 @@ int work_begin(struct work *work) {
     uint8_t refused = read_layout(work->flash, &work->layout);
     if (refused == 0) refused = read_flash(work->flash, &work->before);
     if (refused != 0) return refuse(work, refused);
-    refused = work->options->action->start(work->flash, work->options->words, work->job);
+    refused = work->options->action->start(work->flash, work->options, work->job);
     if (refused != 0) return refuse_start(work, refused);
     int status = judge_base(work);
     if (status == DONE) status = keep_granules(work);

@@ -1,6 +1,7 @@
 /* Loaded before a program: the file named by FAKE_MTD is to it a NOR flash behind /dev/mtdN, with erase size
- * FAKE_MTD_ERASE. A byte written is ANDed with the old one; MEMERASE erases; fsync answers EINVAL. A byte at offset
- * FAKE_MTD_WORN, if set, cannot be cleared any more. FAKE_MTD_LOG gets a line for each change. */
+ * FAKE_MTD_ERASE, or a device of the type FAKE_MTD_TYPE, if set. A byte written is ANDed with the old one; MEMERASE
+ * erases; fsync answers EINVAL. A byte at offset FAKE_MTD_WORN, if set, cannot be cleared any more. FAKE_MTD_LOG gets a
+ * line for each change. */
 #define _GNU_SOURCE
 #include <dlfcn.h>
 #include <errno.h>
@@ -129,7 +130,7 @@ int ioctl(int file, unsigned long request, ...) {
     if (request != MEMGETINFO) return -1;
     struct mtd_info_user *info = word;
     memset(info, 0, sizeof *info);
-    info->type = MTD_NORFLASH;
+    info->type = getenv("FAKE_MTD_TYPE") != NULL ? (uint8_t)atoi(getenv("FAKE_MTD_TYPE")) : MTD_NORFLASH;
     info->size = (uint32_t)lseek(file, 0, SEEK_END);
     info->erasesize = (uint32_t)atol(getenv("FAKE_MTD_ERASE"));
     return 0;

@@ -103,6 +103,135 @@ class Explain(Bench):
         self.assertGreater(story["states"], 2 * steps + 20)
 
 
+class CreateAndDelete(Bench):
+    """Slots come and go. P3 is the quarry image's slot that is not in the boot order; its room begins at 0xA000."""
+
+    without_p3 = images.QUARRY[:-1]
+    with_p4 = without_p3 + [("P4", 0xA000, 0x1000, 0)]
+
+    def setUp(self):
+        super().setUp()
+        self.image = self.put("quarry", images.quarry())
+
+    def start_of(self, image, name, *words):
+        """Where a create would put the slot."""
+        answer = self.done(image, *GRANULE, "--create", name, *words, "--json").json()
+        return answer["slots"][-1]["name"], answer["slots"][-1]["start"]
+
+    def test_say_what_they_would_do(self):
+        order = ["boot order now:   P2 (slot 1), P1 (slot 0)", "boot order after: P2 (slot 1), P1 (slot 0)"]
+        steps = "8,202 steps: 8,200 bytes programmed, 2 granules erased; in SPT1, then SPT0"
+        self.assertEqual(self.done(self.image, *GRANULE, "--create", "P4", "0x2000", "--dry-run").lines,
+                         [*order, "slot 3:           P4 is new, 8,192 bytes at 0xb000", steps])
+        self.assertEqual(self.done(self.image, *GRANULE, "--delete", "P3").lines,
+                         [*order, "slot 2:           P3 is deleted", steps])
+        self.assertEqual(self.get("quarry"), images.quarry())
+        self.assertEqual(os.listdir(self.folder), ["quarry"])
+
+    def test_room_that_was_freed(self):
+        self.done(self.image, *GRANULE, "--delete", "P3", "--in-place")
+        without = images.image(self.without_p3, [0x8000, 0x9000], 65536)
+        without[0xA000] = 0  # the image stays
+        self.assertEqual(self.get("quarry"), without)
+        self.done(self.image, *GRANULE, "--create", "P4", "4096", "--in-place")
+        self.assertEqual(self.get("quarry"), images.image(self.with_p4, [0x8000, 0x9000], 65536))
+
+    def test_start_that_a_dead_place_holds(self):
+        flash = images.image(self.without_p3, [0x8000, 0x9000], 65536)
+        self.assertEqual(self.start_of(self.put("free", flash), "P4", "0x1000"), ("P4", 0xA000))
+        flash = images.image(self.without_p3, [0x8000, 0x9000, 0xA000], 65536)
+        self.assertEqual(self.start_of(self.put("held", flash), "P4", "0x1000"), ("P4", 0xB000))
+
+    def test_numbers_move(self):
+        image = self.put("p2", images.quarry([0x9000]))
+        lines = self.done(image, *GRANULE, "--delete", "P1", "--in-place").lines
+        self.assertEqual(lines[:4], ["boot order now:   P2 (slot 1)", "boot order after: P2 (slot 0)",
+                                     "slot 0:           P1 is deleted", "slot numbers:     each above 0 becomes one lower"])
+        self.assertEqual([slot["name"] for slot in self.done(image, "--list", "--json").json()["slots"]], ["P2", "P3"])
+
+    def test_name_that_is_digits(self):
+        self.done(self.image, *GRANULE, "--rename", "P3", "0", "--in-place")
+        self.assertIn("slot 2:           0 is deleted", self.done(self.image, *GRANULE, "--delete", "0").lines)
+
+    def test_given_again_after_a_cut(self):
+        """Cut where the table read is already the new one: repaired and given again, it takes no other slot."""
+        image = self.put("p2", images.quarry([0x9000]))
+        self.done(image, *GRANULE, "--delete", "P1", "--steps", self.path("plan"))
+        flash = bytearray(self.get("p2"))
+        steps = self.get("plan").decode().splitlines()[11:]
+        for step in steps[:len(steps) // 2 + 1]:
+            kind, address, *byte = step.split()
+            at = int(address, 16)
+            if kind == "erase":
+                flash[at : at + 4096] = images.ERASED * 4096
+            else:
+                flash[at] &= int(byte[0], 16)
+        cut = self.put("cut", flash)
+        self.refused(6, cut, *GRANULE, "--delete", "P1")
+        self.done(cut, *GRANULE, "--repair", "--in-place")
+        again = self.refused(7, cut, *GRANULE, "--delete", "P1", "--in-place")
+        self.assertIn("no slot is named P1", again.err)
+        self.assertEqual([slot["name"] for slot in self.done(cut, "--list", "--json").json()["slots"]], ["P2", "P3"])
+
+    def test_room_that_is_not_erased(self):
+        self.assertNotIn("warning", self.done(self.image, *GRANULE, "--create", "P4", "4096").err)
+        self.assertNotIn("warning", self.done(self.image, *GRANULE, "--delete", "P3", "--in-place").err)
+        self.assertIn("the room of P4 is not erased", self.done(self.image, *GRANULE, "--create", "P4", "4096").err)
+
+    def test_room_before_the_base(self):
+        entries = [(name, start, 0x1000 if name == "FACTORY_IMAGE" else size, flags) for name, start, size, flags in images.QUARRY]
+        part = self.put("part", images.image(entries, [0x8000], 65536)[0x4000:])
+        answer = self.done(part, *GRANULE, "--create", "P4", "4096")
+        self.assertIn("slot 3:           P4 is new, 4,096 bytes at 0x3000", answer.lines)
+        self.assertIn("what stands there is not known", answer.err)
+
+    def test_explain(self):
+        lines = self.done(self.image, *GRANULE, "--create", "P4", "4096", "--explain").lines[4:]
+        self.assertEqual(lines[:3], ["power fails before step 4,102 of 8,202: P2 starts, as now",
+                                     "after it: P2 starts, as now; slot 3 is then P4, which is new", "no other slot can start first"])
+        image = self.put("p2", images.quarry([0x9000]))
+        lines = self.done(image, *GRANULE, "--delete", "P1", "--explain").lines[5:]
+        self.assertEqual(lines[:3], ["power fails before step 4,102 of 8,202: P2 starts, as now",
+                                     "after it: P2 starts, as now; P1 is then deleted", "no other slot can start first"])
+
+    def test_refusals_of_create(self):
+        create = (*GRANULE, "--in-place", "--create")
+        for name in ("", "sixteen bytes at", "CPB1"):
+            self.refused(9, self.image, *create, name, "4096")
+        self.refused(10, self.image, *create, "P1", "4096")
+        self.refused(10, self.image, *create, "P1", "0")
+        for length in ("0", "1", "4095", "0x1001", "0xffffffff"):
+            self.refused(40, self.image, *create, "P4", length)
+        self.refused(42, self.image, *create, "P4", "0x6000")
+        self.refused(42, self.image, *create, "P4", "0xfffff000")
+        self.done(self.image, *GRANULE, "--create", "P4", "0x5000")
+        self.assertEqual(self.get("quarry"), images.quarry())
+        self.refused(6, self.put("cut", cut_pointers()), *create, "P4", "4096")
+        more = [(f"S{number}", 0xB000 + 0x1000 * number, 0x1000, 0) for number in range(118)]
+        for count, number in ((117, 0), (118, 41)):
+            image = self.put("many", images.image(images.QUARRY + more[:count], [0x8000], 1 << 20))
+            self.assertEqual(self.run_tool(image, *GRANULE, "--create", "P4", "4096").status, number)
+
+    def test_refusals_of_delete(self):
+        delete = (*GRANULE, "--in-place", "--delete")
+        self.refused(43, self.image, *delete, "P1")
+        self.refused(43, self.image, *delete, "P2")
+        for name in ("P9", "2", "=P3", "", "SPT0"):
+            answer = self.refused(7, self.image, *delete, name)
+            self.assertIn(f"no slot is named {name}\n", answer.err)
+            self.assertEqual("--delete takes the slot's name and never a number" in answer.err, name == "2")
+        self.refused(6, self.put("cut", cut_pointers()), *delete, "P1")
+        self.assertEqual(self.get("quarry"), images.quarry())
+
+    def test_usage(self):
+        for words in (["--create"], ["--create", "P4"], ["--create", "P4", "x"], ["--create", "P4", "-1"], ["--create", "P4", ""],
+                      ["--create", "P4", "4294967296"], ["--create", "P4", "4096 "], ["--delete"]):
+            answer = self.run_tool(self.image, *GRANULE, *words)
+            self.assertEqual((answer.status, answer.out), (120, ""), words)
+        self.failed(120, "--granule", self.image, "--create", "P4", "4096")
+        self.failed(120, "--granule", self.image, "--delete", "P3")
+
+
 class Refusals(Bench):
     def setUp(self):
         super().setUp()

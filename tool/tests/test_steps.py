@@ -34,14 +34,22 @@ JOBS = {
     "disable twice enabled": (images.quarry([0x8000, 0x9000, 0x8000]), 4096, ["--disable", "P1"]),
     "disable by a rewrite": (images.image(CASE_9, [0x11000, 0x10000], 73728), 4096, ["--disable", "P1"]),
     "rename": (images.quarry(), 4096, ["--rename", "P1", "fifteen bytes.."]),
+    "create": (images.quarry(), 4096, ["--create", "P4", "0x5000"]),
+    "delete": (images.quarry([0x9000]), 4096, ["--delete", "P1"]),
     "repair of pointers": (damaged(images.quarry(), 0x6000), 4096, ["--repair"]),
     "repair of tables": (damaged(images.quarry(), 0x5000), 4096, ["--repair"]),
     "repair of both": (damaged(images.quarry(), 0x4000, 0x7000), 4096, ["--repair"]),
     "repair of nothing": (images.quarry(), 4096, ["--repair"]),
     "granule 32768": (images.image(scaled(images.QUARRY, 8), [0x40000], 1 << 19), 32768, ["--rename", "P2", "NEW"]),
     "granule 65536": (images.image(scaled(images.QUARRY, 16), [0x80000] * 508, 1 << 20), 65536, ["--enable", "P3"]),
+    "create, granule 32768": (images.image(scaled(images.QUARRY, 8), [0x40000], 1 << 19), 32768, ["--create", "P4", "0x1000"]),
+    "delete, granule 65536": (images.image(scaled(images.QUARRY, 16), [0x80000], 1 << 20), 65536, ["--delete", "P2"]),
     "from SPT0 on": (images.quarry()[0x4000:], 4096, ["--rename", "P2", "NEW"]),
 }
+
+
+# as mtd/mtd-abi.h numbers them
+MTD_TYPES = {0: "ABSENT", 1: "RAM", 2: "ROM", 3: "NORFLASH", 4: "NANDFLASH", 6: "DATAFLASH", 7: "UBIVOLUME", 8: "MLCNANDFLASH"}
 
 
 class Plans(Bench):
@@ -124,6 +132,21 @@ class Plans(Bench):
         self.assertEqual(answer.status, 122)
         self.assertIn("erases 65536 bytes at a time", answer.err)
         self.assertEqual(self.get("image"), images.quarry())
+
+    def test_type_of_the_device(self):
+        flash, granule, words = JOBS["enable"]
+        self.make("enable")
+        for program in (self.apply, lambda **device: self.run_tool(self.path("image"), *words, "--device", **device)):
+            for number, name in MTD_TYPES.items():
+                with self.subTest(name):
+                    self.put("image", flash)
+                    answer = program(**self.as_device("image", granule, FAKE_MTD_TYPE=number))
+                    if name in ("RAM", "NORFLASH"):
+                        self.assert_applied(answer)
+                        continue
+                    self.assertEqual(answer.status, 121, answer.err)
+                    self.assertIn("is no NOR flash", answer.err)
+                    self.assertEqual(self.get("image"), flash)
 
     def test_worn_byte_stops_it(self):
         flash, granule, words = JOBS["enable"]

@@ -3,7 +3,9 @@
 use crate::cases::layout::random_name;
 use crate::cases::random::Random;
 use crate::document::commands::Command;
+use crate::document::image::BLOCK_BYTES;
 use crate::document::reading::View;
+use crate::document::rooms::gaps;
 use crate::document::steps::{Job, Step, REWRITE_STEPS, REWRITE_STEPS_FROM_ERASE};
 use crate::document::table::{FIXED_NAMES, NAME_BYTES};
 use crate::replay::Session;
@@ -18,23 +20,48 @@ pub fn random_command(random: &mut Random, session: &Session) -> Command {
         return Command::Repair;
     }
     match random.below(100) {
-        0..=37 => Command::Enable(random_slot(random, view.table.slots.len())),
-        38..=69 => Command::Disable(ordered_slot(random, &view)),
-        70..=92 => {
+        0..=32 => Command::Enable(enabled_slot(random, &view)),
+        33..=58 => Command::Disable(ordered_slot(random, &view)),
+        59..=74 => {
             let slot = random_slot(random, view.table.slots.len());
             Command::Rename(slot, new_name(random, &view, slot))
         }
+        75..=84 => random_create(random, &view),
+        85..=93 => random_delete(random, &view),
         _ => Command::Repair,
     }
+}
+
+/// A create, mostly of a slot that there may be room for.
+pub fn random_create(random: &mut Random, view: &View) -> Command {
+    let name = match random.below(100) {
+        0..=9 => new_name(random, view, u32::MAX),
+        10..=54 => format!("N{}", random.below(10_000)).into_bytes(),
+        _ => random_name(random),
+    };
+    Command::Create(new_length(random, view), name)
+}
+
+/// A delete, mostly of a slot outside the boot order.
+pub fn random_delete(random: &mut Random, view: &View) -> Command {
+    let order = view.order();
+    let slots = view.table.slots.len();
+    let others: Vec<u32> = (0..slots as u32).filter(|slot| !order.contains(slot)).collect();
+    if others.is_empty() || random.percent(20) {
+        return Command::Delete(random_slot(random, slots));
+    }
+    Command::Delete(random.pick(&others))
 }
 
 /// A command with no look at the flash.
 pub fn any_command(random: &mut Random) -> Command {
     let slot = random_slot(random, 3);
-    match random.below(4) {
+    match random.below(6) {
         0 => Command::Enable(slot),
         1 => Command::Disable(slot),
         2 => Command::Rename(slot, random_name(random)),
+        3 => Command::Create(random.pick(&[4096, 4096, 0, 1]), random_name(random)),
+        4 => Command::Delete(slot),
         _ => Command::Repair,
     }
 }
@@ -46,6 +73,14 @@ pub fn random_slot(random: &mut Random, slots: usize) -> u32 {
     }
     let other = random.number() as u32;
     random.pick(&[slots as u32, slots as u32 + 1, 127, 508, u32::MAX, other])
+}
+
+/// Any slot, now and then the first of the order.
+fn enabled_slot(random: &mut Random, view: &View) -> u32 {
+    match view.order().first() {
+        Some(&first) if random.percent(8) => first,
+        _ => random_slot(random, view.table.slots.len()),
+    }
 }
 
 fn ordered_slot(random: &mut Random, view: &View) -> u32 {
@@ -76,6 +111,36 @@ fn new_name(random: &mut Random, view: &View, slot: u32) -> Vec<u8> {
             name
         }
     }
+}
+
+/// A length for a new slot: a few blocks, as much as a gap has or a block more, too much, or none that
+/// is allowed.
+fn new_length(random: &mut Random, view: &View) -> u32 {
+    const BLOCK: u32 = BLOCK_BYTES as u32;
+    let gap = random_gap(random, view);
+    let image_length = view.image.len() as u32;
+    let any = random.number() as u32;
+    match random.below(100) {
+        0..=44 => BLOCK,
+        45..=56 => BLOCK * random.between(2, 4) as u32,
+        57..=77 => gap,
+        78..=83 => gap + BLOCK,
+        84..=87 => random.pick(&[image_length, image_length - BLOCK, 0x8000_0000, 0xFFFF_F000]),
+        88..=91 => 0,
+        _ => random.pick(&[1, BLOCK - 1, BLOCK + 1, gap + 2048, u32::MAX, any]),
+    }
+}
+
+/// The length of a gap between partitions, often of the longest or of the one behind the last
+/// partition; a block if there is none.
+pub fn random_gap(random: &mut Random, view: &View) -> u32 {
+    let gaps = gaps(view).map(|gap| (gap.end - gap.start) as u32);
+    let gaps: Vec<u32> = gaps.filter(|&length| length > 0).collect();
+    let [Some(&longest), Some(&last)] = [gaps.iter().max(), gaps.last()] else {
+        return BLOCK_BYTES as u32;
+    };
+    let any = random.pick(&gaps);
+    random.weighted(&[(40, longest), (20, last), (40, any)])
 }
 
 /// A budget: none, few steps, the borders of a rewriting, more than there are.

@@ -5,7 +5,7 @@ use crate::cases::flash::Flash;
 use crate::cases::layout::{random_value, slot_starts};
 use crate::cases::random::Random;
 use crate::document::image::BLOCK_BYTES;
-use crate::document::pointers::{place_offset, PLACES};
+use crate::document::pointers::{room, Shape, COUNT_FIELD, OFFSET_FIELD, OFFSET_MOST};
 use crate::document::table::{
     ENTRIES_MAX, ENTRIES_OFFSET, ENTRY_BYTES, FIXED_NAMES, NAME_BYTES, RULES,
 };
@@ -119,18 +119,57 @@ fn breaking(random: &mut Random, flash: &Flash, rule: usize) -> Damage {
 /// Damage to one judged or unjudged field of a pointer block.
 pub fn pointer_damage(random: &mut Random, flash: &Flash) -> Damage {
     let starts = slot_starts(&flash.partitions);
-    match random.below(10) {
+    match random.below(12) {
         judged @ 0..=4 => {
-            let field = [0x00, 0x04, 0x08, 0x10, 0x14][judged as usize];
+            let field = [0x00, 0x04, 0x08, OFFSET_FIELD, COUNT_FIELD][judged as usize];
             let at = field + random.index(4);
             vec![(at, vec![flash.pointers[at] ^ 1 << random.below(8)])]
         }
         5 => vec![(random.pick(&[0x0C, 0x0F, 0x18, 0x1F]), random.bytes(1))],
+        6..=8 => shape_damage(random, flash.shape),
         _ => {
-            let places = random.pick(&[4, 40, PLACES]);
-            let place = random.index(places);
-            vec![(place_offset(place), random_value(random, &starts).to_le_bytes().to_vec())]
+            let places = random.pick(&[4, 40, flash.shape.count]).min(flash.shape.count);
+            let at = flash.shape.place_offset(random.index(places));
+            vec![(at, random_value(random, &starts).to_le_bytes().to_vec())]
         }
+    }
+}
+
+/// Another offset, another count or both; many of them just outside the rule.
+pub fn shape_damage(random: &mut Random, shape: Shape) -> Damage {
+    let any = random.number() as u32;
+    let offset = shape.offset as u32;
+    let most = OFFSET_MOST as u32;
+    let offsets = [
+        0,
+        0x18,
+        0x18,
+        0x18,
+        0x1C,
+        0x20,
+        0x28,
+        most,
+        most + 4,
+        most + 8,
+        offset + 4,
+        offset + 4,
+        offset + 8,
+        offset - 4,
+        offset - 4,
+        offset - 4,
+        offset | 1 << 16,
+        u32::MAX - 7,
+        u32::MAX,
+        any,
+    ];
+    let room = room(shape.offset) as u32;
+    let counts = [0, 0, 1, room - 1, room, room + 1, room + 1, 508, 509, 1 << 29, u32::MAX, any];
+    let new_offset = (OFFSET_FIELD, random.pick(&offsets).to_le_bytes().to_vec());
+    let new_count = (COUNT_FIELD, random.pick(&counts).to_le_bytes().to_vec());
+    match random.below(10) {
+        0..=3 => vec![new_offset],
+        4..=7 => vec![new_count],
+        _ => vec![new_offset, new_count],
     }
 }
 

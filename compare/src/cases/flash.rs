@@ -2,7 +2,7 @@
 
 use crate::cases::layout::slot_starts;
 use crate::document::image::{Geometry, BLOCK_BYTES, ERASED};
-use crate::document::pointers::{self, PLACE_BYTES};
+use crate::document::pointers::{self, Shape, PLACE_BYTES};
 use crate::document::table::{self, ENTRIES_OFFSET, ENTRY_BYTES, NAME_BYTES};
 use crate::replay::hex;
 
@@ -24,6 +24,8 @@ pub struct Flash {
     /// Bytes inside slots, each with their address.
     pub contents: Vec<(u64, Vec<u8>)>,
     pub partitions: Vec<Partition>,
+    /// The shape of the pointer block.
+    pub shape: Shape,
     pub table: [u8; BLOCK_BYTES],
     pub pointers: [u8; BLOCK_BYTES],
 }
@@ -37,10 +39,19 @@ impl Flash {
         partitions: Vec<Partition>,
         places: &[u64],
     ) -> Flash {
+        let shape = Shape::OLD_EDITION;
         let table = table_block(&partitions);
-        let pointers = pointer_block(places);
+        let pointers = pointer_block(shape, places);
         let contents = Vec::new();
-        Flash { image_length, granule, fill: ERASED, contents, partitions, table, pointers }
+        Flash { image_length, granule, fill: ERASED, contents, partitions, shape, table, pointers }
+    }
+
+    /// With a pointer block of another shape and these values in its first places; 0xFF is in all
+    /// its bytes before and behind the places.
+    pub fn shaped(mut self, shape: Shape, places: &[u64]) -> Flash {
+        self.shape = shape;
+        self.pointers = pointer_block(shape, places);
+        self
     }
 
     /// With a first byte of 0 in every slot.
@@ -177,16 +188,16 @@ fn table_block(partitions: &[Partition]) -> [u8; BLOCK_BYTES] {
     block
 }
 
-fn pointer_block(places: &[u64]) -> [u8; BLOCK_BYTES] {
+fn pointer_block(shape: Shape, places: &[u64]) -> [u8; BLOCK_BYTES] {
     let mut block = [ERASED; BLOCK_BYTES];
-    block[..pointers::PLACES_OFFSET].fill(0);
+    block[..pointers::OFFSET_LEAST].fill(0);
     let mut field = |at: usize, value: u32| block[at..at + 4].copy_from_slice(&value.to_le_bytes());
     field(0x00, pointers::MAGIC);
     field(0x04, pointers::HEADER_SIZE);
     field(0x08, BLOCK_BYTES as u32);
-    field(0x10, pointers::PLACES_OFFSET as u32);
-    field(0x14, pointers::PLACES as u32);
-    let rows = block[pointers::PLACES_OFFSET..].chunks_exact_mut(PLACE_BYTES);
+    field(pointers::OFFSET_FIELD, shape.offset as u32);
+    field(pointers::COUNT_FIELD, shape.count as u32);
+    let rows = block[shape.offset..shape.end()].chunks_exact_mut(PLACE_BYTES);
     for (row, value) in rows.zip(places) {
         row.copy_from_slice(&value.to_le_bytes());
     }

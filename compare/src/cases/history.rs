@@ -4,9 +4,8 @@ use crate::cases::arguments::{random_budget, random_command, random_cut, random_
 use crate::cases::layout::random_flash;
 use crate::cases::random::Random;
 use crate::cases::script::Writer;
-use crate::document::book::{Book, Choice, Outcome};
+use crate::document::book::{Book, Choice, Item, Outcome};
 use crate::document::commands::Command;
-use crate::document::pointers::{place_offset, PLACES};
 use crate::document::reading::View;
 use crate::replay::Answer;
 
@@ -20,9 +19,12 @@ pub fn write_history(random: &mut Random, writer: &mut Writer, items: u64) {
     let mut book = Book::begin(reading);
     for _ in 0..items {
         let command = random_command(random, &writer.session);
+        let Some(item) = view(writer).map(|got| Item::of(&command, &got)) else {
+            return;
+        };
         let outcome = write_item(random, writer, &command);
         write_questions(random, writer);
-        let choice = judge(writer, &mut book, &command, outcome, &frame);
+        let choice = judge(writer, &mut book, &item, outcome, &frame);
         writer.tally.count_item(outcome, choice);
         if choice.is_none() {
             return;
@@ -69,7 +71,7 @@ fn view<'a>(writer: &'a Writer) -> Option<View<'a>> {
 fn judge(
     writer: &Writer,
     book: &mut Book,
-    command: &Command,
+    item: &Item,
     outcome: Outcome,
     frame: &Frame,
 ) -> Option<Choice> {
@@ -78,7 +80,7 @@ fn judge(
     if outcome == Outcome::Finished && !agree || !frame.kept_by(&writer.session.image) {
         return None;
     }
-    book.enter(command, outcome, &view.reading())
+    book.enter(item, outcome, &view.reading())
 }
 
 /// One command and the runs of its job, to its end or to a cut.
@@ -139,6 +141,7 @@ fn write_questions(random: &mut Random, writer: &mut Writer) {
     let pointer_address = random.pick(&view.table.pointer_addresses);
     let table_address = random.pick(&view.table_addresses);
     let (order_length, entries) = (view.order().len(), view.table.entries.len());
+    let shape = view.pointers.shape;
     match random.below(8) {
         0 | 1 => {
             let slot = random_slot(random, slots);
@@ -149,9 +152,9 @@ fn write_questions(random: &mut Random, writer: &mut Writer) {
             writer.line(format!("order {row}"));
         }
         3 => {
-            let places = random.pick(&[5, PLACES]);
-            let place = random.index(places);
-            writer.line(format!("peek {} 8", pointer_address + place_offset(place)));
+            let places = random.pick(&[5, shape.count]).min(shape.count);
+            let at = shape.place_offset(random.index(places));
+            writer.line(format!("peek {} 8", pointer_address + at));
         }
         4 => {
             let entry = random.index(entries);

@@ -5,7 +5,9 @@ use std::collections::HashSet;
 use crate::cases::flash::{Flash, Partition};
 use crate::cases::random::Random;
 use crate::document::image::{BLOCK_BYTES, ERASED, GRANULES};
-use crate::document::pointers::{judge, ERASED_PLACE, PLACES};
+use crate::document::pointers::{
+    judge, room, Shape, ERASED_PLACE, OFFSET_LEAST, OFFSET_MOST, PLACE_BYTES,
+};
 use crate::document::table::{ENTRIES_MAX, ENTRIES_OFFSET, ENTRY_BYTES, FIXED_NAMES, NAME_BYTES};
 use crate::replay::IMAGE_BYTES_MAX;
 
@@ -16,16 +18,23 @@ const HALF_CLEARED_PAGES: u64 = 0x1_0000 / PAGE;
 
 /// A random image.
 pub fn random_flash(random: &mut Random) -> Flash {
-    let granule = random.weighted(&[(70, GRANULES[0]), (15, GRANULES[1]), (15, GRANULES[2])]);
     let entry_count = entry_count(random);
+    random_flash_of(random, entry_count)
+}
+
+/// A random image with so many entries.
+pub fn random_flash_of(random: &mut Random, entry_count: usize) -> Flash {
+    let granule = random.weighted(&[(70, GRANULES[0]), (15, GRANULES[1]), (15, GRANULES[2])]);
     let (mut partitions, pages) = random_partitions(random, granule, entry_count);
     if random.percent(70) {
         random.shuffle(&mut partitions);
     }
     let starts = slot_starts(&partitions);
-    let places = random_places(random, &starts);
+    let shape = random_shape(random);
+    let mut places = random_places(random, &starts, shape.count);
+    hold_free_starts(random, &mut places, &free_starts(&partitions, pages));
     let image_length = (pages * PAGE) as usize;
-    let mut flash = Flash::new(image_length, granule, partitions, &places);
+    let mut flash = Flash::new(image_length, granule, partitions, &[]).shaped(shape, &places);
     flash.fill = if random.percent(50) { ERASED } else { random.byte() };
     fill_unjudged(random, &mut flash);
     fill_slots(random, &mut flash);
@@ -38,6 +47,30 @@ pub fn slot_starts(partitions: &[Partition]) -> Vec<u64> {
     slots.map(|partition| partition.start).collect()
 }
 
+/// The multiples of 4,096 that lie in no partition.
+fn free_starts(partitions: &[Partition], pages: u64) -> Vec<u64> {
+    let free = |start: &u64| {
+        let covers = |partition: &Partition| {
+            (partition.start..partition.start + u64::from(partition.length)).contains(start)
+        };
+        !partitions.iter().any(covers)
+    };
+    (0..pages).map(|page| page * PAGE).filter(free).collect()
+}
+
+/// Puts low free starts into a few of the spent places.
+fn hold_free_starts(random: &mut Random, places: &mut [u64], free: &[u64]) {
+    if free.is_empty() || places.is_empty() || random.percent(40) {
+        return;
+    }
+    for _ in 0..4 {
+        let place = random.index(places.len());
+        if places[place] == 0 {
+            places[place] = free[random.index(free.len().min(3))];
+        }
+    }
+}
+
 fn is_slot(partition: &Partition) -> bool {
     partition.flags & 3 == 0 && !FIXED_NAMES.contains(&&partition.name[..])
 }
@@ -47,8 +80,9 @@ fn entry_count(random: &mut Random) -> usize {
         (40, (6, 12)),
         (25, (13, 30)),
         (20, (31, 60)),
-        (10, (61, 126)),
-        (7, (ENTRIES_MAX as u64, ENTRIES_MAX as u64)),
+        (8, (61, 125)),
+        (4, (ENTRIES_MAX as u64 - 1, ENTRIES_MAX as u64 - 1)),
+        (8, (ENTRIES_MAX as u64, ENTRIES_MAX as u64)),
     ]);
     random.between(lowest, highest) as usize
 }
@@ -92,7 +126,7 @@ fn random_partitions(
         });
         page += pages;
     }
-    let after = random.weighted(&[(50, 0), (30, 1), (20, 3)]).min(PAGES_MAX - page);
+    let after = random.weighted(&[(25, 0), (25, 1), (20, 3), (30, 8)]).min(PAGES_MAX - page);
     (partitions, page + after)
 }
 
@@ -100,7 +134,7 @@ fn random_gap(random: &mut Random, page: u64, fixed: bool) -> u64 {
     if !fixed && random.percent(12) {
         return page.next_multiple_of(HALF_CLEARED_PAGES) - page;
     }
-    random.weighted(&[(85, 0), (10, 1), (5, 2)])
+    random.weighted(&[(80, 0), (13, 1), (7, 2)])
 }
 
 fn random_flags(random: &mut Random, fixed: bool) -> u32 {
@@ -139,18 +173,46 @@ pub fn random_name(random: &mut Random) -> Vec<u8> {
     (0..length).map(|_| random.between(1, 255) as u8).collect()
 }
 
-/// The values of the places up to the highest one used.
-fn random_places(random: &mut Random, starts: &[u64]) -> Vec<u64> {
-    let last = PLACES as u64 - 1;
+/// The shape of a pointer block: the old edition's, or any other, often of few places.
+fn random_shape(random: &mut Random) -> Shape {
+    if random.percent(45) {
+        return Shape::OLD_EDITION;
+    }
+    let any = OFFSET_LEAST + PLACE_BYTES * random.index(room(OFFSET_LEAST));
+    let [next, last_but_one] = [OFFSET_LEAST + PLACE_BYTES, OFFSET_MOST - PLACE_BYTES];
+    let offset = random.weighted(&[
+        (12, OFFSET_LEAST),
+        (15, next),
+        (58, any),
+        (7, last_but_one),
+        (8, OFFSET_MOST),
+    ]);
+    let most = room(offset) as u64;
+    let count = match random.below(100) {
+        0..=17 => most,
+        18..=29 => most - u64::from(most > 1),
+        30..=79 => random.between(1, most.min(12)),
+        _ => random.between(1, most),
+    };
+    Shape { offset, count: count as usize }
+}
+
+/// The values of the places up to the highest one used, of so many that there are.
+fn random_places(random: &mut Random, starts: &[u64], count: usize) -> Vec<u64> {
+    if count <= starts.len() && random.percent(30) {
+        return different_starts(random, starts, count);
+    }
+    let count = count as u64;
     let ranges = [
         (10, (0, 0)),
         (45, (1, 12)),
         (20, (13, 120)),
-        (5, (121, last - 3)),
-        (20, (last - 1, last)),
-        (8, (last + 1, last + 1)),
+        (5, (121, count)),
+        (20, (count.saturating_sub(2), count - 1)),
+        (8, (count, count)),
     ];
     let (lowest, highest) = random.weighted(&ranges);
+    let [lowest, highest] = [lowest, highest.max(lowest)].map(|used: u64| used.min(count));
     let used = random.between(lowest, highest);
     // Long scripts are dull: most of a long row is spent places.
     let spent_percent = if used > 120 && random.percent(80) { 92 } else { 20 };
@@ -163,6 +225,14 @@ fn random_places(random: &mut Random, starts: &[u64]) -> Vec<u64> {
         }
     }
     places
+}
+
+/// Every place live, and no two of the same slot: an enable of another slot is refused 15.
+fn different_starts(random: &mut Random, starts: &[u64], count: usize) -> Vec<u64> {
+    let mut starts = starts.to_vec();
+    random.shuffle(&mut starts);
+    starts.truncate(count);
+    starts
 }
 
 /// A live, part-written, half-cleared, stray or erased value of a place.
@@ -208,6 +278,10 @@ fn fill_unjudged(random: &mut Random, flash: &mut Flash) {
         flash.pointers[0x0C..0x10].copy_from_slice(&random.bytes(4));
         flash.pointers[0x18..0x20].copy_from_slice(&random.bytes(8));
     }
+    let starts = slot_starts(&flash.partitions);
+    let Shape { offset, .. } = flash.shape;
+    fill_around_places(random, &mut flash.pointers[OFFSET_LEAST..offset], &starts);
+    fill_around_places(random, &mut flash.pointers[flash.shape.end()..], &starts);
     let uncounted = ENTRIES_OFFSET + ENTRY_BYTES * flash.partitions.len();
     match random.below(100) {
         0..=29 => flash.table[uncounted..].fill(ERASED),
@@ -226,6 +300,28 @@ fn fill_unjudged(random: &mut Random, flash: &mut Flash) {
             flash.table[after.clone()].copy_from_slice(&random.bytes(after.len()));
         }
     }
+}
+
+/// Puts something into the bytes before or behind the places: other bytes, sometimes what would be
+/// pointers to slots if a place was there, sometimes nothing.
+fn fill_around_places(random: &mut Random, bytes: &mut [u8], starts: &[u64]) {
+    if bytes.is_empty() || random.percent(20) {
+        return;
+    }
+    bytes.fill(random.weighted(&[(40, 0), (20, ERASED), (40, 0xA5)]));
+    // Long rows of random bytes would make long scripts.
+    let length = bytes.len().min(2 * PLACE_BYTES);
+    let [first, last] = if starts.is_empty() || random.percent(50) {
+        [random.bytes(length), random.bytes(length)]
+    } else {
+        [0, 1].map(|_| {
+            let pointers = [random.pick(starts), random.pick(starts)].map(u64::to_le_bytes);
+            pointers.concat()[..length].to_vec()
+        })
+    };
+    bytes[..length].copy_from_slice(&first);
+    let at = bytes.len() - length;
+    bytes[at..].copy_from_slice(&last);
 }
 
 /// Puts something into most slots. An empty slot's first 4,096 bytes are 0xFF; others have a byte of

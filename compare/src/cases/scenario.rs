@@ -1,29 +1,36 @@
 //! Scripts on images that are damaged, told of wrongly, or changed under a running job.
 
 use crate::cases::arguments::{
-    any_command, random_budget, random_command, random_cut, random_slot,
+    any_command, random_budget, random_command, random_create, random_cut, random_delete,
+    random_gap, random_slot,
 };
-use crate::cases::damage::{pointer_damage, rule_damage, table_damage, Damage};
+use crate::cases::damage::{pointer_damage, rule_damage, shape_damage, table_damage, Damage};
 use crate::cases::flash::Flash;
 use crate::cases::history::write_history;
-use crate::cases::layout::{dead_value, random_flash, random_value, slot_starts};
+use crate::cases::layout::{
+    dead_value, random_flash, random_flash_of, random_name, random_value, slot_starts,
+};
 use crate::cases::random::Random;
 use crate::cases::script::Writer;
+use crate::document::commands::Command;
 use crate::document::image::BLOCK_BYTES;
-use crate::document::pointers::{place_offset, PLACES, PLACES_OFFSET, PLACE_BYTES};
+use crate::document::pointers::PLACE_BYTES;
+use crate::document::reading::View;
+use crate::document::rooms::lowest_room;
 use crate::document::steps::Step;
-use crate::document::table::RULES;
+use crate::document::table::{ENTRIES_MAX, RULES};
 use crate::replay::{hex, Answer, IMAGE_BYTES_MAX};
 
 /// Writes one script of a random kind.
 pub fn write_script(random: &mut Random, writer: &mut Writer) {
     match random.below(100) {
-        0..=48 => {
+        0..=42 => {
             let items = random.between(6, 16);
             write_history(random, writer, items);
         }
-        49..=71 => write_damaged(random, writer),
-        72..=79 => write_broken_rules(random, writer),
+        43..=51 => write_rooms(random, writer),
+        52..=69 => write_damaged(random, writer),
+        70..=79 => write_broken_rules(random, writer),
         80..=86 => write_wrong_geometry(random, writer),
         87..=92 => write_wrong_length(random, writer),
         93..=94 => write_other_writer(random, writer),
@@ -148,6 +155,87 @@ fn write_everything(random: &mut Random, writer: &mut Writer) {
     writer.line("sum");
 }
 
+/// Slots deleted and created, many in the room of others; dead places put where a create would begin.
+fn write_rooms(random: &mut Random, writer: &mut Writer) {
+    let full = random.weighted(&[(15, ENTRIES_MAX - 2), (30, ENTRIES_MAX - 1), (55, ENTRIES_MAX)]);
+    let flash =
+        if random.percent(30) { random_flash_of(random, full) } else { random_flash(random) };
+    writer.build(&flash);
+    for _ in 0..random.between(4, 9) {
+        match random.below(100) {
+            0..=34 => write_reuse(random, writer),
+            35..=59 => write_held(random, writer, &flash),
+            60..=84 => write_create(random, writer),
+            _ => {
+                let command = random_command(random, &writer.session);
+                write_finished(random, writer, &command);
+            }
+        }
+        if random.percent(30) {
+            writer.line("order");
+        }
+    }
+    writer.line("sum");
+}
+
+/// A slot outside the order deleted, mostly the lowest, and one created that mostly fits its room.
+fn write_reuse(random: &mut Random, writer: &mut Writer) {
+    let Ok(view) = View::of(&writer.session.image, &writer.session.geometry) else {
+        return;
+    };
+    let order = view.order();
+    let outside = (0..).zip(&view.table.slots).filter(|(slot, _)| !order.contains(slot));
+    let lowest = outside.min_by_key(|(_, &number)| view.table.entries[number].start);
+    let Some((slot, &number)) = lowest else {
+        return;
+    };
+    let length = view.table.entries[number].length;
+    let slots = view.table.slots.len();
+    let any = random_delete(random, &view);
+    let delete = if random.percent(75) { Command::Delete(slot) } else { any };
+    write_finished(random, writer, &delete);
+    let name = random_name(random);
+    write_finished(random, writer, &Command::Create(length, name));
+    let slot = random.pick(&[slots.saturating_sub(2), slots - 1]);
+    writer.line(format!("slot {slot}"));
+}
+
+fn write_create(random: &mut Random, writer: &mut Writer) {
+    if let Ok(view) = View::of(&writer.session.image, &writer.session.geometry) {
+        let command = random_create(random, &view);
+        write_finished(random, writer, &command);
+    }
+}
+
+/// A dead place where a slot of some length would begin, and the create of one.
+fn write_held(random: &mut Random, writer: &mut Writer, flash: &Flash) {
+    let Ok(view) = View::of(&writer.session.image, &writer.session.geometry) else {
+        return;
+    };
+    let length = random_gap(random, &view);
+    let slots = view.table.slots.len();
+    if let Some(start) = lowest_room(&view, u64::from(length)) {
+        let place = flash.shape.place_offset(random.index(flash.shape.count));
+        let value = vec![(place, start.to_le_bytes().to_vec())];
+        for block in flash.pointer_addresses() {
+            store(writer, block, &value);
+        }
+    }
+    let name = random_name(random);
+    write_finished(random, writer, &Command::Create(length, name));
+    writer.line(format!("slot {slots}"));
+}
+
+/// A command whose job is run or cut, and a repair if one is due.
+fn write_finished(random: &mut Random, writer: &mut Writer, command: &Command) {
+    if let Answer::Job(steps) = writer.start(command) {
+        write_runs(random, writer, steps);
+        if matches!(writer.start(&Command::Repair), Answer::Job(steps) if steps > 0) {
+            writer.line(format!("run {}", u64::MAX));
+        }
+    }
+}
+
 /// Dead, live and erased values put into places, some at either end, and the listing.
 fn write_listings(random: &mut Random, writer: &mut Writer) {
     let flash = random_flash(random);
@@ -159,15 +247,16 @@ fn write_listings(random: &mut Random, writer: &mut Writer) {
     }
     let starts = slot_starts(&flash.partitions);
     for _ in 0..random.between(4, 9) {
-        let (low, any) = (random.index(4), random.index(PLACES));
-        let place = random.pick(&[0, PLACES - 1, low, any]);
+        let count = flash.shape.count;
+        let (low, any) = (random.index(count.min(4)), random.index(count));
+        let place = random.pick(&[0, count - 1, low, any]);
         let value = match random.below(10) {
             0 | 1 => random_value(random, &starts),
             _ => dead_value(random, &flash.partitions),
         };
         let both = random.percent(85);
         for block in flash.pointer_addresses().into_iter().take(if both { 2 } else { 1 }) {
-            let address = block + place_offset(place) as u64;
+            let address = block + flash.shape.place_offset(place) as u64;
             writer.line(format!("put {address} {}", hex(&value.to_le_bytes())));
         }
         writer.line("list");
@@ -185,12 +274,13 @@ fn write_listings(random: &mut Random, writer: &mut Writer) {
 /// One dead value in every place of both copies.
 fn fill_places(random: &mut Random, writer: &mut Writer, flash: &Flash) {
     let [cpb0, cpb1] = flash.pointer_addresses();
-    let first = cpb0 + PLACES_OFFSET as u64;
+    let places = flash.shape.count;
+    let first = cpb0 + flash.shape.offset as u64;
     let value = dead_value(random, &flash.partitions);
     writer.line(format!("put {first} {}", hex(&value.to_le_bytes())));
     let mut filled = 1;
-    while filled < PLACES {
-        let more = filled.min(PLACES - filled);
+    while filled < places {
+        let more = filled.min(places - filled);
         let (to, bytes) = (first + (filled * PLACE_BYTES) as u64, more * PLACE_BYTES);
         writer.line(format!("copy {first} {to} {bytes}"));
         filled += more;
@@ -363,4 +453,21 @@ fn write_dumps(random: &mut Random, writer: &mut Writer) {
         writer.line(format!("dumps {first} {first_length} {second} {second_length}"));
     }
     writer.line("order");
+    write_shapes(random, writer, &flash);
+}
+
+/// Both pointer blocks with the same other offset or count, and what is read then.
+fn write_shapes(random: &mut Random, writer: &mut Writer, flash: &Flash) {
+    for _ in 0..8 {
+        for block in flash.pointer_addresses() {
+            store(writer, block, &vec![(0, flash.pointers[..0x20].to_vec())]);
+        }
+        let damage = shape_damage(random, flash.shape);
+        for block in flash.pointer_addresses() {
+            store(writer, block, &damage);
+        }
+        let [first, second] = flash.pointer_addresses();
+        writer.line(format!("dumps {second} {BLOCK_BYTES} {first} {BLOCK_BYTES}"));
+        write_questions(random, writer);
+    }
 }

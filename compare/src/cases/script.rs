@@ -36,6 +36,7 @@ impl<'a> Writer<'a> {
     }
 
     pub fn build(&mut self, flash: &Flash) {
+        self.tally.count_flash(flash.shape);
         for line in flash.lines() {
             self.line(line);
         }
@@ -104,6 +105,9 @@ fn command_line(command: &Command) -> String {
         Command::Disable(slot) => format!("disable {slot}"),
         Command::Rename(slot, name) if name.is_empty() => format!("rename {slot}"),
         Command::Rename(slot, name) => format!("rename {slot} {}", hex(name)),
+        Command::Create(length, name) if name.is_empty() => format!("create {length}"),
+        Command::Create(length, name) => format!("create {length} {}", hex(name)),
+        Command::Delete(slot) => format!("delete {slot}"),
         Command::Repair => "repair".to_string(),
     }
 }

@@ -3,16 +3,18 @@
 use std::fmt;
 
 use crate::document::book::{Choice, Outcome};
+use crate::document::image::ERASED;
 use crate::document::listing::Listing;
-use crate::document::pointers::{judge, places, Judgement, PLACES};
+use crate::document::pointers::{judge, Judgement, PointerBlock, Shape, OFFSET_LEAST};
 use crate::document::reading::View;
 use crate::document::refusal::{Refusal, NUMBERS};
+use crate::document::rooms::{free_start, lowest_room};
 use crate::document::steps::{Step, REWRITE_STEPS};
-use crate::document::table::RULES;
+use crate::document::table::{ENTRIES_MAX, RULES};
 use crate::replay::{Answer, Session};
 
 /// The kinds of jobs, in the order in which they are counted.
-const JOB_KINDS: [&str; 12] = [
+const JOB_KINDS: [&str; 14] = [
     "enable, 0 steps",
     "enable, 16 steps",
     "enable, 8202 steps",
@@ -21,6 +23,8 @@ const JOB_KINDS: [&str; 12] = [
     "disable, 8202 steps",
     "rename, 0 steps",
     "rename, 8202 steps",
+    "create, 8202 steps",
+    "delete, 8202 steps",
     "repair, 0 steps",
     "repair, 4101 steps, table",
     "repair, 4101 steps, pointer block",
@@ -28,13 +32,25 @@ const JOB_KINDS: [&str; 12] = [
 ];
 
 /// The commands that are accepted or refused.
-const COMMANDS: [&str; 8] =
-    ["order", "slot", "list", "enable", "disable", "rename", "repair", "run"];
+const COMMANDS: [&str; 10] =
+    ["order", "slot", "list", "enable", "disable", "rename", "create", "delete", "repair", "run"];
 
 /// Every refusal, every kind of job and every broken rule is tried at least this often.
 const LEAST: u64 = 100;
 /// Enables of an empty slot, which are refused 14.
 const LEAST_EMPTY: u64 = 1000;
+/// Enables whose order is too long, which are refused 15.
+const LEAST_TOO_LONG: u64 = 300;
+/// Rewritings of a boot order with bytes before the places and behind them to be kept.
+const LEAST_KEEPING: u64 = 500;
+/// One flash of so many has pointer blocks of another shape than the old edition's.
+const FLASHES_TO_ONE_SHAPED: u64 = 3;
+/// Each of the refusals that create and delete alone have.
+const LEAST_ROOMS: u64 = 300;
+/// Creates in room that a delete freed.
+const LEAST_REUSED: u64 = 500;
+/// Creates that a dead place keeps from a lower start.
+const LEAST_HELD: u64 = 300;
 /// Cuts inside an erase that leave any bytes erased.
 const LEAST_TORN: u64 = 2000;
 
@@ -59,6 +75,18 @@ const LISTING_KINDS: [&str; 13] = [
     "a slot that live places hold twice, and dead places",
 ];
 
+/// The kinds of creates and deletes, in the order in which they are counted.
+const ROOM_KINDS: [(&str, u64); 8] = [
+    ("creates in room that a delete freed", LEAST_REUSED),
+    ("creates that a dead place keeps from a lower start", LEAST_HELD),
+    ("creates refused 42 because of dead places alone", LEAST),
+    ("creates that end with the image", LEAST),
+    ("creates in a table of 126 entries", LEAST),
+    ("creates refused in a table of 127", LEAST),
+    ("deletes in a table of 126", LEAST),
+    ("deletes in a table of 127", LEAST),
+];
+
 /// A count, and how great it must be in a whole comparison.
 struct Demand {
     what: String,
@@ -69,6 +97,9 @@ struct Demand {
 #[derive(Default)]
 pub struct Tally {
     pub scripts: u64,
+    /// Flashes built, and those whose pointer blocks are not of the old edition.
+    flashes: u64,
+    flashes_shaped: u64,
     /// Accepted and refused, for each command.
     commands: [(u64, u64); COMMANDS.len()],
     /// In the order of the refusals' numbers.
@@ -79,6 +110,11 @@ pub struct Tally {
     first_and_empty: u64,
     listings: [u64; LISTING_KINDS.len()],
     jobs: [u64; JOB_KINDS.len()],
+    rooms: [u64; ROOM_KINDS.len()],
+    /// Start and end of each slot that the present script deletes.
+    deleted: Vec<(u64, u64)>,
+    /// Rewritings of a boot order where other bytes than 0xFF are before the places and behind them.
+    keeping_rewrites: u64,
     pub cuts: u64,
     /// Cuts that leave the lowest bytes of a granule erased.
     pub cuts_inside_an_erase: u64,
@@ -121,9 +157,24 @@ impl Tally {
         let demand = |what: String, count: u64| Demand { what, count, least: LEAST };
         let mut demands = Vec::new();
         for (&number, count) in NUMBERS.iter().zip(self.refusals) {
-            let least = if number == Refusal::SlotEmpty.number() { LEAST_EMPTY } else { LEAST };
+            let least = match number {
+                number if number == Refusal::SlotEmpty.number() => LEAST_EMPTY,
+                number if number == Refusal::OrderTooLong.number() => LEAST_TOO_LONG,
+                40..=43 => LEAST_ROOMS,
+                _ => LEAST,
+            };
             demands.push(Demand { what: format!("refusal {number}"), count, least });
         }
+        demands.push(Demand {
+            what: "pointer blocks not of the old edition".to_string(),
+            count: self.flashes_shaped,
+            least: self.flashes.div_ceil(FLASHES_TO_ONE_SHAPED),
+        });
+        demands.push(Demand {
+            what: "rewritings with bytes before and behind the places".to_string(),
+            count: self.keeping_rewrites,
+            least: LEAST_KEEPING,
+        });
         demands.push(demand("first already and empty".to_string(), self.first_and_empty));
         for (rule, counts) in (1..).zip(self.broken_rules) {
             for (copy, count) in WHERE_BROKEN.iter().zip(counts) {
@@ -136,9 +187,19 @@ impl Tally {
         for (name, count) in JOB_KINDS.iter().zip(self.jobs) {
             demands.push(demand(name.to_string(), count));
         }
+        for ((name, least), count) in ROOM_KINDS.into_iter().zip(self.rooms) {
+            demands.push(Demand { what: name.to_string(), count, least });
+        }
         let what = "torn erases".to_string();
         demands.push(Demand { what, count: self.torn_erases, least: LEAST_TORN });
         demands
+    }
+
+    /// Counts a flash that a script builds.
+    pub fn count_flash(&mut self, shape: Shape) {
+        self.flashes += 1;
+        self.deleted.clear();
+        self.flashes_shaped += u64::from(shape != Shape::OLD_EDITION);
     }
 
     /// Counts a line that a session has just done.
@@ -152,6 +213,11 @@ impl Tally {
             }
             return;
         };
+        match word {
+            "create" => self.count_create(line, answer, session),
+            "delete" => self.count_delete(line, answer, session),
+            _ => {}
+        }
         if let Answer::ListingRefused(refusal) = answer {
             self.commands[command].1 += 1;
             self.count_number(*refusal);
@@ -170,7 +236,10 @@ impl Tally {
             self.count_listing(listing, session);
         }
         if let Answer::Job(steps) = answer {
-            self.jobs[job_kind(word, *steps, session)] += 1;
+            let kind = job_kind(word, *steps, session);
+            self.jobs[kind] += 1;
+            let rewrites_order = ["enable", "disable"].contains(&word) && *steps == REWRITE_BOTH;
+            self.keeping_rewrites += u64::from(rewrites_order && bytes_to_keep(session));
         }
     }
 
@@ -193,6 +262,10 @@ impl Tally {
     }
 
     fn count_listing(&mut self, listing: &Listing, session: &Session) {
+        let Ok(view) = View::of(&session.image, &session.geometry) else {
+            return;
+        };
+        let count = view.pointers.shape.count;
         let mut met = [false; LISTING_KINDS.len()];
         for &(place, judgement) in &listing.dead {
             let kind = match judgement {
@@ -200,15 +273,51 @@ impl Tally {
                 Judgement::PartWritten(_) => 3,
                 _ => 6,
             };
-            met[kind + if place == 0 { 0 } else { 1 + usize::from(place == PLACES - 1) }] = true;
+            met[kind + if place == 0 { 0 } else { 1 + usize::from(place + 1 == count) }] = true;
         }
         let dead = listing.dead.len();
-        met[9] = dead == PLACES;
+        met[9] = dead == count;
         met[10] = dead == 0;
         met[11] = dead > 0 && listing.slots.is_empty();
-        met[12] = dead > 0 && live_places(session) > listing.slots.len();
+        met[12] = dead > 0 && live_places(&view) > listing.slots.len();
         for (count, met) in self.listings.iter_mut().zip(met) {
             *count += u64::from(met);
+        }
+    }
+
+    fn count_create(&mut self, line: &str, answer: &Answer, session: &Session) {
+        let Ok(view) = View::of(&session.image, &session.geometry) else {
+            return;
+        };
+        let length = argument(line);
+        let entries = view.table.entries.len();
+        let room = lowest_room(&view, u64::from(length));
+        if let Answer::Refused(refusal) = answer {
+            let held = *refusal == Refusal::NoRoom && room.is_some();
+            self.rooms[2] += u64::from(held);
+            self.rooms[5] += u64::from(entries == ENTRIES_MAX);
+            return;
+        }
+        let Some(start) = free_start(&view, length, None) else {
+            return;
+        };
+        let end = start + u64::from(length);
+        let reused = self.deleted.iter().any(|&(from, to)| start < to && from < end);
+        self.rooms[0] += u64::from(reused);
+        self.rooms[1] += u64::from(room != Some(start));
+        self.rooms[3] += u64::from(end == view.image.len() as u64);
+        self.rooms[4] += u64::from(entries + 1 == ENTRIES_MAX);
+    }
+
+    fn count_delete(&mut self, line: &str, answer: &Answer, session: &Session) {
+        let Ok(view) = View::of(&session.image, &session.geometry) else {
+            return;
+        };
+        if let (Answer::Job(_), Ok((_, entry))) = (answer, view.slot_facts(argument(line))) {
+            self.deleted.push((entry.start, entry.end()));
+            let entries = view.table.entries.len();
+            self.rooms[6] += u64::from(entries + 1 == ENTRIES_MAX);
+            self.rooms[7] += u64::from(entries == ENTRIES_MAX);
         }
     }
 
@@ -224,20 +333,36 @@ impl Tally {
 }
 
 /// How many places of the copy read are live.
-fn live_places(session: &Session) -> usize {
-    let Ok(view) = View::of(&session.image, &session.geometry) else {
-        return 0;
-    };
-    let judged = places(view.pointer_bytes()).map(|value| judge(value, &view.table.starts));
+fn live_places(view: &View) -> usize {
+    let judged = view.pointers.places().map(|value| judge(value, &view.table.starts));
     judged.filter(|judgement| matches!(judgement, Judgement::Live(_))).count()
+}
+
+/// Whether the copy read has other bytes than 0xFF both before its places and behind them.
+fn bytes_to_keep(session: &Session) -> bool {
+    let Ok(View { pointers: PointerBlock { bytes, shape }, .. }) =
+        View::of(&session.image, &session.geometry)
+    else {
+        return false;
+    };
+    let around = [&bytes[OFFSET_LEAST..shape.offset], &bytes[shape.end()..]];
+    around.iter().all(|bytes| bytes.iter().any(|&byte| byte != ERASED))
+}
+
+/// The number in a line such as `delete 3`.
+fn argument(line: &str) -> u32 {
+    let number = line.split(' ').nth(1).and_then(|word| word.parse().ok());
+    number.expect("a number of the line")
 }
 
 /// Whether the slot of a line such as `enable 3` is the first of the boot order.
 fn line_names_first_slot(line: &str, session: &Session) -> bool {
-    let slot = line.split(' ').nth(1).and_then(|word| word.parse::<u32>().ok());
     let view = View::of(&session.image, &session.geometry);
-    slot.is_some() && view.is_ok_and(|view| view.order().first().copied() == slot)
+    view.is_ok_and(|view| view.order().first() == Some(&argument(line)))
 }
+
+/// Steps of a job that rewrites a pair.
+const REWRITE_BOTH: usize = 2 * REWRITE_STEPS;
 
 fn job_kind(word: &str, steps: usize, session: &Session) -> usize {
     let in_table = match session.job.as_ref().and_then(|job| job.next_step()) {
@@ -247,20 +372,21 @@ fn job_kind(word: &str, steps: usize, session: &Session) -> usize {
         }
         None => false,
     };
-    const BOTH: usize = 2 * REWRITE_STEPS;
     match (word, steps) {
         ("enable", 0) => 0,
-        ("enable", BOTH) => 2,
+        ("enable", REWRITE_BOTH) => 2,
         ("enable", _) => 1,
         ("disable", 16) => 3,
-        ("disable", BOTH) => 5,
+        ("disable", REWRITE_BOTH) => 5,
         ("disable", _) => 4,
         ("rename", 0) => 6,
         ("rename", _) => 7,
-        (_, 0) => 8,
-        (_, BOTH) => 11,
-        _ if in_table => 9,
-        _ => 10,
+        ("create", _) => 8,
+        ("delete", _) => 9,
+        (_, 0) => 10,
+        (_, REWRITE_BOTH) => 13,
+        _ if in_table => 11,
+        _ => 12,
     }
 }
 
@@ -268,6 +394,8 @@ impl fmt::Display for Tally {
     fn fmt(&self, out: &mut fmt::Formatter<'_>) -> fmt::Result {
         let (accepted, refused) = (self.accepted(), self.refused());
         writeln!(out, "{} scripts, {} commands", self.scripts, self.commands())?;
+        let (flashes, shaped) = (self.flashes, self.flashes_shaped);
+        writeln!(out, "{flashes} flashes, {shaped} with pointer blocks not of the old edition")?;
         writeln!(out, "{accepted} accepted, {refused} refused")?;
         for (name, (accepted, refused)) in COMMANDS.iter().zip(self.commands) {
             writeln!(out, "  {name}: {accepted} accepted, {refused} refused")?;
@@ -289,6 +417,11 @@ impl fmt::Display for Tally {
         for (name, count) in JOB_KINDS.iter().zip(self.jobs) {
             writeln!(out, "  {name}: {count}")?;
         }
+        for ((name, _), count) in ROOM_KINDS.iter().zip(self.rooms) {
+            writeln!(out, "  {name}: {count}")?;
+        }
+        let keeping = self.keeping_rewrites;
+        writeln!(out, "  {keeping} of 8202 with bytes before and behind the places to be kept")?;
         let (lowest, torn) = (self.cuts_inside_an_erase, self.torn_erases);
         writeln!(out, "{} cuts", self.cuts)?;
         writeln!(out, "  {lowest} inside an erase that has wiped the lowest bytes")?;

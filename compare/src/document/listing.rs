@@ -2,7 +2,7 @@
 
 use std::fmt;
 
-use crate::document::pointers::{judge, places, Judgement};
+use crate::document::pointers::{judge, Judgement};
 use crate::document::reading::View;
 use crate::document::shortcut::Shortcut;
 use crate::document::table::Entry;
@@ -21,7 +21,7 @@ impl Listing {
         let slot = |slot: u32| (slot, view.table.entries[view.table.slots[slot as usize]]);
         let slots = view.order().into_iter().map(slot).collect();
         let judged =
-            places(view.pointer_bytes()).map(|value| judge(value, &view.table.starts)).enumerate();
+            view.pointers.places().map(|value| judge(value, &view.table.starts)).enumerate();
         let mut dead: Vec<(usize, Judgement)> = judged
             .map(|(place, judgement)| (place, planted(judgement, shortcut)))
             .filter(|(_, judgement)| judgement.is_dead())

@@ -7,6 +7,7 @@ pub mod listing;
 pub mod pointers;
 pub mod reading;
 pub mod refusal;
+pub mod rooms;
 pub mod shortcut;
 pub mod steps;
 pub mod table;

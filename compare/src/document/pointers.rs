@@ -2,23 +2,81 @@
 //! the boot order, two dumps.
 
 use crate::document::image::{u32_at, u64_at, BLOCK_BYTES};
+use crate::document::shortcut::Shortcut;
 
 pub const MAGIC: u32 = 0x5778_9609;
 pub const HEADER_SIZE: u32 = 0x18;
-pub const PLACES_OFFSET: usize = 0x20;
-pub const PLACES: usize = 508;
+/// Where the fields of a block are that say where its places are and how many there are.
+pub const OFFSET_FIELD: usize = 0x10;
+pub const COUNT_FIELD: usize = 0x14;
 pub const PLACE_BYTES: usize = 8;
+/// The places begin here at the lowest, and here at the highest.
+pub const OFFSET_LEAST: usize = 0x20;
+pub const OFFSET_MOST: usize = BLOCK_BYTES - PLACE_BYTES;
+/// The most places that a block can have, which are those of the old edition.
+pub const PLACES_MAX: usize = room(OFFSET_LEAST);
 /// The value of an erased place.
 pub const ERASED_PLACE: u64 = u64::MAX;
 
+/// How many places there is room for from an offset to the block's end.
+pub const fn room(offset: usize) -> usize {
+    (BLOCK_BYTES - offset) / PLACE_BYTES
+}
+
+/// Where the places of a block begin, and how many there are.
+#[derive(Clone, Copy, Debug, PartialEq, Eq)]
+pub struct Shape {
+    pub offset: usize,
+    pub count: usize,
+}
+
+impl Shape {
+    /// The shape of every block in document 01.
+    pub const OLD_EDITION: Shape = Shape { offset: OFFSET_LEAST, count: PLACES_MAX };
+
+    /// The shape of these bytes, if they are a pointer block that stands; with a shortcut planted,
+    /// of more than stand.
+    pub fn of(block: &[u8], shortcut: Option<Shortcut>) -> Option<Shape> {
+        let stands = block.len() == BLOCK_BYTES
+            && u32_at(block, 0x00) == MAGIC
+            && u32_at(block, 0x04) == HEADER_SIZE
+            && u32_at(block, 0x08) == BLOCK_BYTES as u32;
+        if !stands {
+            return None;
+        }
+        let offset = u32_at(block, OFFSET_FIELD) as usize;
+        let count = u32_at(block, COUNT_FIELD) as usize;
+        let plants = |planted: Shortcut| shortcut == Some(planted);
+        let lowest = if plants(Shortcut::OffsetInHeader) { 0x18 } else { OFFSET_LEAST };
+        let unit = if plants(Shortcut::OffsetOfFours) { 4 } else { PLACE_BYTES };
+        if !(lowest..=OFFSET_MOST).contains(&offset) || !offset.is_multiple_of(unit) {
+            return None;
+        }
+        let least = usize::from(!plants(Shortcut::NoPlaces));
+        let most = room(offset) + usize::from(plants(Shortcut::OnePlaceTooMany));
+        // The planted place too many is admitted, and not read.
+        let read = count.min(room(offset));
+        (least..=most).contains(&count).then_some(Shape { offset, count: read })
+    }
+
+    /// The offset of a place in its block.
+    pub fn place_offset(self, place: usize) -> usize {
+        self.offset + PLACE_BYTES * place
+    }
+
+    /// Where the last place ends.
+    pub fn end(self) -> usize {
+        self.place_offset(self.count)
+    }
+
+    pub fn last_place(self) -> usize {
+        self.count - 1
+    }
+}
+
 /// Whether these bytes are a pointer block that stands.
 pub fn stands(block: &[u8]) -> bool {
-    block.len() == BLOCK_BYTES
-        && u32_at(block, 0x00) == MAGIC
-        && u32_at(block, 0x04) == HEADER_SIZE
-        && u32_at(block, 0x08) == BLOCK_BYTES as u32
-        && u32_at(block, 0x10) == PLACES_OFFSET as u32
-        && u32_at(block, 0x14) == PLACES as u32
+    Shape::of(block, None).is_some()
 }
 
 /// The dump that stands, the first if both do; an empty part of the first if neither does.
@@ -32,14 +90,47 @@ pub fn standing_dump<'a>(first: &'a [u8], second: &'a [u8]) -> &'a [u8] {
     }
 }
 
-/// The offset of a place in its block.
-pub fn place_offset(place: usize) -> usize {
-    PLACES_OFFSET + PLACE_BYTES * place
+/// A pointer block that stands.
+#[derive(Clone, Copy, Debug)]
+pub struct PointerBlock<'a> {
+    pub bytes: &'a [u8],
+    pub shape: Shape,
 }
 
-/// The values of all places, from place 0 up.
-pub fn places(block: &[u8]) -> impl DoubleEndedIterator<Item = u64> + ExactSizeIterator + '_ {
-    block[PLACES_OFFSET..].chunks_exact(PLACE_BYTES).map(|bytes| u64_at(bytes, 0))
+impl<'a> PointerBlock<'a> {
+    /// The values of all places, from place 0 up.
+    pub fn places(&self) -> impl DoubleEndedIterator<Item = u64> + ExactSizeIterator + 'a {
+        let places = &self.bytes[self.shape.offset..self.shape.end()];
+        places.chunks_exact(PLACE_BYTES).map(|bytes| u64_at(bytes, 0))
+    }
+
+    /// The slots in boot order, for slots with these starts.
+    pub fn boot_order(&self, starts: &[u64]) -> Vec<u32> {
+        let mut order = Vec::with_capacity(starts.len());
+        let mut met = vec![false; starts.len()];
+        for value in self.places().rev() {
+            if let Judgement::Live(slot) = judge(value, starts) {
+                if !met[slot as usize] {
+                    met[slot as usize] = true;
+                    order.push(slot);
+                }
+            }
+        }
+        order
+    }
+
+    /// The lowest place such that it and all above are erased.
+    pub fn free_place(&self) -> Option<usize> {
+        let used = self.places().rposition(|value| value != ERASED_PLACE);
+        let free = used.map_or(0, |place| place + 1);
+        (free < self.shape.count).then_some(free)
+    }
+
+    /// The places that hold this value, lowest first.
+    pub fn places_holding(&self, value: u64) -> Vec<usize> {
+        let holding = self.places().enumerate().filter(|&(_, held)| held == value);
+        holding.map(|(place, _)| place).collect()
+    }
 }
 
 /// What a place is judged to be. Document 01's dead places are the spent, part-written and stray.
@@ -74,32 +165,4 @@ pub fn judge(value: u64, starts: &[u64]) -> Judgement {
         None if value >> 56 == 0xFF => Judgement::PartWritten(value),
         None => Judgement::Stray(value),
     }
-}
-
-/// The slots in boot order, for slots with these starts.
-pub fn boot_order(block: &[u8], starts: &[u64]) -> Vec<u32> {
-    let mut order = Vec::with_capacity(starts.len());
-    let mut met = vec![false; starts.len()];
-    for value in places(block).rev() {
-        if let Judgement::Live(slot) = judge(value, starts) {
-            if !met[slot as usize] {
-                met[slot as usize] = true;
-                order.push(slot);
-            }
-        }
-    }
-    order
-}
-
-/// The lowest place such that it and all above are erased.
-pub fn free_place(block: &[u8]) -> Option<usize> {
-    let used = places(block).rposition(|value| value != ERASED_PLACE);
-    let free = used.map_or(0, |place| place + 1);
-    (free < PLACES).then_some(free)
-}
-
-/// The places that hold this value, lowest first.
-pub fn places_holding(block: &[u8], value: u64) -> Vec<usize> {
-    let holding = places(block).enumerate().filter(|&(_, held)| held == value);
-    holding.map(|(place, _)| place).collect()
 }

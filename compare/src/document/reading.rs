@@ -1,7 +1,7 @@
 //! Which copies are read, whether the pairs agree, and what a reader is told of them.
 
 use crate::document::image::{block_at, Geometry};
-use crate::document::pointers;
+use crate::document::pointers::{PointerBlock, Shape};
 use crate::document::refusal::Refusal;
 use crate::document::shortcut::Shortcut;
 use crate::document::table::{self, Entry, Rule, Table};
@@ -15,6 +15,7 @@ pub struct View<'a> {
     pub table_copy: usize,
     /// Number of the pointer block copy read.
     pub pointer_copy: usize,
+    pub pointers: PointerBlock<'a>,
 }
 
 /// The table copy read and the boot order, which is what the book of demand 3 is about.
@@ -46,22 +47,21 @@ impl<'a> View<'a> {
         let (table_copy, table) = standing(0)
             .or_else(|| standing(1))
             .ok_or_else(|| no_table(image, geometry, shortcut))?;
-        let pointer_copy = (0..2)
-            .find(|&copy| pointers::stands(block_at(image, table.pointer_addresses[copy])))
-            .ok_or(Refusal::NoPointerBlockStands)?;
-        Ok(View { image, table, table_addresses, table_copy, pointer_copy })
+        let standing = |copy: usize| {
+            let bytes = block_at(image, table.pointer_addresses[copy]);
+            Some((copy, PointerBlock { bytes, shape: Shape::of(bytes, shortcut)? }))
+        };
+        let (pointer_copy, pointers) =
+            standing(0).or_else(|| standing(1)).ok_or(Refusal::NoPointerBlockStands)?;
+        Ok(View { image, table, table_addresses, table_copy, pointer_copy, pointers })
     }
 
     pub fn table_bytes(&self) -> &'a [u8] {
         block_at(self.image, self.table_addresses[self.table_copy])
     }
 
-    pub fn pointer_bytes(&self) -> &'a [u8] {
-        block_at(self.image, self.table.pointer_addresses[self.pointer_copy])
-    }
-
     pub fn order(&self) -> Vec<u32> {
-        pointers::boot_order(self.pointer_bytes(), &self.table.starts)
+        self.pointers.boot_order(&self.table.starts)
     }
 
     /// Writes the boot order into the front of the row and returns its length.

@@ -15,16 +15,24 @@ pub enum Refusal {
     PairDisagrees,
     NoSuchSlot,
     SlotEmpty,
+    /// The boot order with the enabled slot is longer than the pointer block's count.
+    OrderTooLong,
     NotInBootOrder,
     NameNotAllowed,
     NameTaken,
+    LengthNotAllowed,
+    TableFull,
+    /// A create finds no start.
+    NoRoom,
+    SlotInBootOrder,
     JobFinished,
     ImageChanged,
     RowTooShort,
 }
 
 /// Every refusal number.
-pub const NUMBERS: [usize; 15] = [1, 2, 3, 50, 51, 5, 6, 7, 14, 8, 9, 10, 11, 12, 13];
+pub const NUMBERS: [usize; 20] =
+    [1, 2, 3, 50, 51, 5, 6, 7, 14, 15, 8, 9, 10, 40, 41, 42, 43, 11, 12, 13];
 
 impl Refusal {
     pub fn number(self) -> usize {
@@ -38,9 +46,14 @@ impl Refusal {
             Refusal::PairDisagrees => 6,
             Refusal::NoSuchSlot => 7,
             Refusal::SlotEmpty => 14,
+            Refusal::OrderTooLong => 15,
             Refusal::NotInBootOrder => 8,
             Refusal::NameNotAllowed => 9,
             Refusal::NameTaken => 10,
+            Refusal::LengthNotAllowed => 40,
+            Refusal::TableFull => 41,
+            Refusal::NoRoom => 42,
+            Refusal::SlotInBootOrder => 43,
             Refusal::JobFinished => 11,
             Refusal::ImageChanged => 12,
             Refusal::RowTooShort => 13,

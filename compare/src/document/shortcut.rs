@@ -36,10 +36,44 @@ pub enum Shortcut {
     SpentIsStray = 15,
     /// No. 7: the places are listed downward.
     PlacesDownward = 16,
+    /// No. 9: a block of no places stands.
+    NoPlaces = 17,
+    /// No. 9: so does one whose last place ends eight bytes behind the block's end.
+    OnePlaceTooMany = 18,
+    /// No. 9: the places may begin where the header ends.
+    OffsetInHeader = 19,
+    /// No. 9: they may begin at any multiple of 4.
+    OffsetOfFours = 20,
+    /// No. 9: an order that just fits is refused 15.
+    FullTooEarly = 21,
+    /// No. 9: a rewriting erases the bytes behind the last place.
+    BytesBehindErased = 22,
+    /// No. 9: a rewriting keeps bytes 0 to 31 alone, and erases the others before the offset.
+    BytesBeforeErased = 23,
+    /// No. 9: the free place is looked for up to the block's end.
+    FreePlaceBehindLast = 24,
+    /// No. 5: a create uses the highest start that is free.
+    HighestStart = 25,
+    /// No. 5: a created slot may begin in the last block of the partition before it.
+    OverlapsByOneBlock = 26,
+    /// No. 5: it may begin where a dead place points.
+    HeldStartTaken = 27,
+    /// No. 5: the new entry comes first.
+    NewEntryFirst = 28,
+    /// No. 5: a create leaves the number of entries as it was.
+    CountNotRaised = 29,
+    /// No. 5: a delete closes the rows up by one too many.
+    RowLost = 30,
+    /// No. 5: a delete leaves the uncounted rows as they were.
+    UncountedRowsKept = 31,
+    /// No. 5: 43 is given for the slots whose number is below the order's length.
+    RankTakenForSlot = 32,
+    /// No. 5: a created slot must end before the image's end.
+    ImageEndLeftOut = 33,
 }
 
 impl Shortcut {
-    pub const ALL: [Shortcut; 16] = [
+    pub const ALL: [Shortcut; 33] = [
         Shortcut::TopByteFirst,
         Shortcut::ClearsBlindly,
         Shortcut::HighestDuplicateFirst,
@@ -56,6 +90,23 @@ impl Shortcut {
         Shortcut::PartWrittenIsStray,
         Shortcut::SpentIsStray,
         Shortcut::PlacesDownward,
+        Shortcut::NoPlaces,
+        Shortcut::OnePlaceTooMany,
+        Shortcut::OffsetInHeader,
+        Shortcut::OffsetOfFours,
+        Shortcut::FullTooEarly,
+        Shortcut::BytesBehindErased,
+        Shortcut::BytesBeforeErased,
+        Shortcut::FreePlaceBehindLast,
+        Shortcut::HighestStart,
+        Shortcut::OverlapsByOneBlock,
+        Shortcut::HeldStartTaken,
+        Shortcut::NewEntryFirst,
+        Shortcut::CountNotRaised,
+        Shortcut::RowLost,
+        Shortcut::UncountedRowsKept,
+        Shortcut::RankTakenForSlot,
+        Shortcut::ImageEndLeftOut,
     ];
 
     /// The shortcut of this number, from 1.

@@ -5,6 +5,8 @@ use crate::document::shortcut::Shortcut;
 
 pub const MAGIC: u32 = 0x5771_3427;
 pub const VERSION: u32 = 0;
+/// Where the number of entries is.
+pub const COUNT_FIELD: usize = 8;
 pub const ENTRIES_MAX: usize = 127;
 pub const ENTRIES_OFFSET: usize = 0x20;
 pub const ENTRY_BYTES: usize = 32;
@@ -52,6 +54,11 @@ impl Fault {
     }
 }
 
+/// The offset of an entry in its table.
+pub fn row_offset(entry: usize) -> usize {
+    ENTRIES_OFFSET + ENTRY_BYTES * entry
+}
+
 /// A name as its field holds it, zeros after the name's end: equal exactly when the names are.
 pub type Name = [u8; NAME_BYTES];
 
@@ -85,6 +92,16 @@ impl Entry {
         })
     }
 
+    /// The 32 bytes of this entry, with zeros after the name.
+    pub fn row(&self) -> [u8; ENTRY_BYTES] {
+        let mut row = [0; ENTRY_BYTES];
+        row[..NAME_BYTES].copy_from_slice(&self.name);
+        row[0x10..0x18].copy_from_slice(&self.start.to_le_bytes());
+        row[0x18..0x1C].copy_from_slice(&self.length.to_le_bytes());
+        row[0x1C..].copy_from_slice(&self.flags.to_le_bytes());
+        row
+    }
+
     /// The name up to its zero.
     pub fn name_bytes(&self) -> &[u8] {
         let end = self.name.iter().position(|&byte| byte == 0);
@@ -102,7 +119,7 @@ impl Entry {
         ends_by(self.start, u64::from(self.length), image_length)
     }
 
-    fn end(&self) -> u64 {
+    pub fn end(&self) -> u64 {
         self.start + u64::from(self.length)
     }
 

@@ -16,7 +16,7 @@ mod words;
 
 pub use answer::{fnv1a, hex, Answer};
 pub use words::NotALine;
-use words::{byte_of, bytes_of, command_of, length_of, number_of, ranges_of, slot_of};
+use words::{byte_of, bytes_of, command_of, length_of, number_of, ranges_of, u32_of};
 
 pub const LINE_BYTES_MAX: usize = 16_384;
 pub const IMAGE_BYTES_MAX: u64 = 1_048_576;
@@ -47,7 +47,9 @@ impl Session {
         let words: Vec<&[u8]> = line.split(|&byte| byte == b' ').collect();
         match words[0] {
             b"image" | b"length" | b"box" | b"put" | b"copy" => self.change(&words),
-            b"enable" | b"disable" | b"rename" | b"repair" => Ok(self.start(&command_of(&words)?)),
+            b"enable" | b"disable" | b"rename" | b"create" | b"delete" | b"repair" => {
+                Ok(self.start(&command_of(&words)?))
+            }
             b"run" | b"cut" | b"torn" => self.carry_out(&words),
             _ => self.ask(&words),
         }
@@ -87,7 +89,7 @@ impl Session {
         match *words {
             [b"order"] => self.order(ROW_DEFAULT),
             [b"order", row] => self.order(number_of(row)?),
-            [b"slot", slot] => Ok(self.slot(slot_of(slot)?)),
+            [b"slot", slot] => Ok(self.slot(u32_of(slot)?)),
             [b"list"] => Ok(self.list()),
             [b"peek", address, length] => {
                 let bytes = self.part(number_of(address)?, number_of(length)?)?;

@@ -9,10 +9,13 @@ pub struct NotALine;
 
 pub fn command_of(words: &[&[u8]]) -> Result<Command, NotALine> {
     Ok(match *words {
-        [b"enable", slot] => Command::Enable(slot_of(slot)?),
-        [b"disable", slot] => Command::Disable(slot_of(slot)?),
-        [b"rename", slot] => Command::Rename(slot_of(slot)?, Vec::new()),
-        [b"rename", slot, name] => Command::Rename(slot_of(slot)?, bytes_of(name)?),
+        [b"enable", slot] => Command::Enable(u32_of(slot)?),
+        [b"disable", slot] => Command::Disable(u32_of(slot)?),
+        [b"rename", slot] => Command::Rename(u32_of(slot)?, Vec::new()),
+        [b"rename", slot, name] => Command::Rename(u32_of(slot)?, bytes_of(name)?),
+        [b"create", length] => Command::Create(u32_of(length)?, Vec::new()),
+        [b"create", length, name] => Command::Create(u32_of(length)?, bytes_of(name)?),
+        [b"delete", slot] => Command::Delete(u32_of(slot)?),
         [b"repair"] => Command::Repair,
         _ => return Err(NotALine),
     })
@@ -31,7 +34,7 @@ pub fn number_of(word: &[u8]) -> Result<u64, NotALine> {
     })
 }
 
-pub fn slot_of(word: &[u8]) -> Result<u32, NotALine> {
+pub fn u32_of(word: &[u8]) -> Result<u32, NotALine> {
     u32::try_from(number_of(word)?).map_err(|_| NotALine)
 }
 

@@ -8,12 +8,15 @@ use super::Updater;
 use crate::cases::flash::{partition, Flash};
 use crate::document::commands::Command;
 use crate::document::image::{Geometry, BLOCK_BYTES};
-use crate::document::pointers::PLACES;
+use crate::document::pointers::{Shape, PLACES_MAX};
 use crate::document::table::{ENTRIES_OFFSET, ENTRY_BYTES, NAME_BYTES};
 
 const MOST_SLOTS: u64 = 121;
 const SLOTS: [u64; 3] = [3, 40, MOST_SLOTS];
-const USED_PLACES: [u64; 3] = [2, 100, PLACES as u64];
+/// The old edition's pointer block, and one with its places in the second half.
+const SHAPES: [Shape; 2] = [Shape::OLD_EDITION, Shape { offset: 2048, count: 256 }];
+/// Used places, as far as there are so many.
+const USED_PLACES: [u64; 3] = [2, 100, PLACES_MAX as u64];
 const IMAGE_LENGTHS: [(&str, usize); 3] =
     [("64 KiB", 65_536), ("1 MiB", 1_048_576), ("256 MiB", 268_435_456)];
 /// BOOT_INFO, FACTORY_IMAGE and the four blocks, of 4,096 bytes each.
@@ -32,6 +35,7 @@ struct Side {
     order: fn(&Geometry) -> Round,
     refused_order: fn(&Geometry) -> Round,
     start: fn(&Geometry, &Command) -> Round,
+    refused_start: fn(&Geometry, &Command, u32) -> Round,
     run: fn(&[u8], &Geometry, &Command) -> Round,
 }
 
@@ -41,6 +45,7 @@ impl Side {
             order: order_round::<U>,
             refused_order: refused_order_round::<U>,
             start: start_round::<U>,
+            refused_start: refused_start_round::<U>,
             run: run_round::<U>,
         }
     }
@@ -58,9 +63,10 @@ fn sides() -> Vec<Side> {
 
 /// Measures everything and prints a table.
 pub fn measure() {
+    keep_freed_memory();
     let sides = sides();
     let columns = if sides.len() == 2 { "independent | updater | ratio" } else { "ns" };
-    println!("slots | used places | image | call | {columns}");
+    println!("slots | used places | of | image | call | {columns}");
     let mut ratios = Vec::new();
     for (length_name, image_length) in IMAGE_LENGTHS {
         for slots in SLOTS {
@@ -68,14 +74,22 @@ pub fn measure() {
             if image_length / BLOCK_BYTES < FIXED_NAMES.len() + slots as usize {
                 continue;
             }
-            for used in USED_PLACES {
-                let flash = bench_flash(image_length, slots, used);
+            for (shape, used) in
+                SHAPES.iter().flat_map(|shape| USED_PLACES.map(|used| (shape, used)))
+            {
+                let used = used.min(shape.count as u64);
+                let flash = bench_flash(image_length, slots, *shape, used, 0);
                 let mut measured = measure_flash(&sides, &flash);
-                if slots == MOST_SLOTS && used == USED_PLACES[0] {
+                let one_outside = |slots: u64| bench_flash(image_length, slots, *shape, used, 1);
+                // With all 121 slots the table is full.
+                measured.extend(measure_creates(&sides, &one_outside(slots.min(MOST_SLOTS - 1))));
+                measured.extend(measure_deletes(&sides, &one_outside(slots)));
+                if slots == MOST_SLOTS && used == USED_PLACES[0] && *shape == Shape::OLD_EDITION {
                     measured.extend(measure_refusals(&sides, &flash));
                 }
                 for (what, times) in measured {
-                    ratios.extend(print_row(slots, used, length_name, &what, &times));
+                    let flash = format!("{slots} | {used} | {} | {length_name}", shape.count);
+                    ratios.extend(print_row(&flash, &what, &times));
                 }
             }
         }
@@ -83,9 +97,16 @@ pub fn measure() {
     print_ratios(ratios);
 }
 
-fn print_row(slots: u64, used: u64, length: &str, what: &str, times: &[f64]) -> Option<f64> {
+/// Frees a large buffer, after which glibc no longer gives the heap's end back whenever a job there is
+/// dropped: whether it does would depend on what else was measured before.
+fn keep_freed_memory() {
+    const LARGE: usize = 30 << 20;
+    drop(black_box(vec![0u8; LARGE]));
+}
+
+fn print_row(flash: &str, what: &str, times: &[f64]) -> Option<f64> {
     let columns: Vec<String> = times.iter().map(|time| format!("{time:.0}")).collect();
-    print!("{slots} | {used} | {length} | {what} | {}", columns.join(" | "));
+    print!("{flash} | {what} | {}", columns.join(" | "));
     let ratio = match times {
         [independent, updater] => Some(updater / independent),
         _ => None,
@@ -113,9 +134,10 @@ fn print_ratios(mut ratios: Vec<f64>) {
     );
 }
 
-/// A flash with slots spread over the image and the places used by all slots in turn. Of a slot's
-/// first 4,096 bytes only the last shows that it is not empty.
-fn bench_flash(image_length: usize, slots: u64, used: u64) -> Flash {
+/// A flash with slots spread over the image, with gaps between them and a longer one behind the last.
+/// The places are used in turn by all slots but so many of the first, which are not in the order. Of
+/// a slot's first 4,096 bytes only the last shows that it is not empty.
+fn bench_flash(image_length: usize, slots: u64, shape: Shape, used: u64, outside: usize) -> Flash {
     const BLOCK: u64 = BLOCK_BYTES as u64;
     let fixed = (0..).zip(FIXED_NAMES);
     let mut partitions: Vec<_> =
@@ -126,8 +148,10 @@ fn bench_flash(image_length: usize, slots: u64, used: u64) -> Flash {
     for (number, start) in (1..).zip(&starts) {
         partitions.push(partition(&format!("P{number}"), *start, BLOCK as u32, 0));
     }
-    let places: Vec<u64> = (0..used).map(|place| starts[(place * 7 % slots) as usize]).collect();
-    let mut flash = Flash::new(image_length, BLOCK, partitions, &places);
+    let ordered = &starts[outside..];
+    let places: Vec<u64> =
+        (0..used as usize).map(|place| ordered[place * 7 % ordered.len()]).collect();
+    let mut flash = Flash::new(image_length, BLOCK, partitions, &[]).shaped(shape, &places);
     flash.contents = starts.iter().map(|start| (start + BLOCK - 1, vec![0])).collect();
     flash
 }
@@ -136,7 +160,7 @@ fn bench_flash(image_length: usize, slots: u64, used: u64) -> Flash {
 fn measure_flash(sides: &[Side], flash: &Flash) -> Vec<(String, Vec<f64>)> {
     let mut image = flash.image();
     let geometry = flash.geometry();
-    let mut row = [0; PLACES];
+    let mut row = [0; PLACES_MAX];
     let count = Independent::order_list(&image, &geometry, &mut row).expect("a flash that stands");
     let (first, last) = (row[0], row[count - 1]);
     let orders = sides.iter().map(|side| (side.order)(&geometry)).collect();
@@ -156,6 +180,44 @@ fn measure_flash(sides: &[Side], flash: &Flash) -> Vec<(String, Vec<f64>)> {
     }
     measured.extend(measure_command(sides, &mut image, &geometry, "repair", &Command::Repair));
     measured
+}
+
+/// Starts of a create that uses the first gap, of one that only the room behind the last slot is long
+/// enough for, and of one that is refused.
+fn measure_creates(sides: &[Side], flash: &Flash) -> Vec<(String, Vec<f64>)> {
+    let mut image = flash.image();
+    let geometry = flash.geometry();
+    let slots = &flash.partitions[FIXED_NAMES.len()..];
+    let create = |length: u64| Command::Create(length as u32, b"ANOTHER-NAME".to_vec());
+    let first_gap = create(BLOCK_BYTES as u64);
+    let behind_last = create(slots[1].start - slots[0].start);
+    let too_long = create((image.len() - BLOCK_BYTES) as u64);
+    let refused = sides.iter().map(|side| (side.refused_start)(&geometry, &too_long, 42)).collect();
+    let mut start =
+        |name: &str, command| measure_start(sides, &mut image, &geometry, name, command);
+    vec![
+        start("create in the first gap", &first_gap),
+        start("create behind the last slot", &behind_last),
+        ("create refused 42".to_string(), least_times(refused, &mut image)),
+    ]
+}
+
+/// The start of a delete that moves all slots' rows but one.
+fn measure_deletes(sides: &[Side], flash: &Flash) -> Vec<(String, Vec<f64>)> {
+    let geometry = flash.geometry();
+    vec![measure_start(sides, &mut flash.image(), &geometry, "delete", &Command::Delete(0))]
+}
+
+fn measure_start(
+    sides: &[Side],
+    image: &mut [u8],
+    geometry: &Geometry,
+    name: &str,
+    command: &Command,
+) -> (String, Vec<f64>) {
+    let steps = started::<Independent>(image, geometry, command).remaining();
+    let starts = sides.iter().map(|side| (side.start)(geometry, command)).collect();
+    (format!("{name}, {steps} steps, start"), least_times(starts, image))
 }
 
 /// Order lists that are refused 51, by rules that are found broken late. The table has one of them
@@ -228,7 +290,7 @@ fn time<T>(inputs: impl IntoIterator<Item = T>, mut call: impl FnMut(T)) -> f64 
 fn order_round<U: Updater>(geometry: &Geometry) -> Round {
     let geometry = *geometry;
     Box::new(move |image| {
-        let mut row = [0; PLACES];
+        let mut row = [0; PLACES_MAX];
         time(0..CALLS, |_| {
             let count = U::order_list(black_box(image), &geometry, &mut row);
             assert!(count.is_ok());
@@ -239,7 +301,7 @@ fn order_round<U: Updater>(geometry: &Geometry) -> Round {
 fn refused_order_round<U: Updater>(geometry: &Geometry) -> Round {
     let geometry = *geometry;
     Box::new(move |image| {
-        let mut row = [0; PLACES];
+        let mut row = [0; PLACES_MAX];
         time(0..CALLS, |_| {
             let refused = U::order_list(black_box(image), &geometry, &mut row);
             assert_eq!(refused, Err(51));
@@ -260,6 +322,21 @@ fn start_round<U: Updater + 'static>(geometry: &Geometry, command: &Command) -> 
         time(0..CALLS, |_| {
             let started = U::start(black_box(image), &geometry, &command, black_box(&mut job));
             assert!(started.is_ok());
+        })
+    })
+}
+
+fn refused_start_round<U: Updater + 'static>(
+    geometry: &Geometry,
+    command: &Command,
+    refusal: u32,
+) -> Round {
+    let (geometry, command) = (*geometry, command.clone());
+    let mut job = U::no_job();
+    Box::new(move |image| {
+        time(0..CALLS, |_| {
+            let refused = U::start(black_box(image), &geometry, &command, black_box(&mut job));
+            assert_eq!(refused, Err(refusal));
         })
     })
 }

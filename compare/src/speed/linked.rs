@@ -48,6 +48,28 @@ extern "C" {
         job: *mut u8,
         job_length: usize,
     ) -> u8;
+    fn delunkpawi_create(
+        image: *const u8,
+        image_length: usize,
+        granule: usize,
+        spt0: usize,
+        spt1: usize,
+        name: *const u8,
+        name_length: usize,
+        length: u32,
+        job: *mut u8,
+        job_length: usize,
+    ) -> u8;
+    fn delunkpawi_delete(
+        image: *const u8,
+        image_length: usize,
+        granule: usize,
+        spt0: usize,
+        spt1: usize,
+        slot: u32,
+        job: *mut u8,
+        job_length: usize,
+    ) -> u8;
     fn delunkpawi_repair(
         image: *const u8,
         image_length: usize,
@@ -127,6 +149,24 @@ impl Updater for Linked {
                     delunkpawi_rename(
                         at, length, granule, spt0, spt1, *slot, name, bytes, job, size,
                     )
+                }
+                Command::Create(slot_length, name) => {
+                    let (name, bytes) = (name.as_ptr(), name.len());
+                    delunkpawi_create(
+                        at,
+                        length,
+                        granule,
+                        spt0,
+                        spt1,
+                        name,
+                        bytes,
+                        *slot_length,
+                        job,
+                        size,
+                    )
+                }
+                Command::Delete(slot) => {
+                    delunkpawi_delete(at, length, granule, spt0, spt1, *slot, job, size)
                 }
                 Command::Repair => delunkpawi_repair(at, length, granule, spt0, spt1, job, size),
             }

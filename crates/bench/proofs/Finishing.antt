@@ -28,7 +28,7 @@ use Rattle.blocks.specs.Made.{Lists}
 use Rattle.commands.specs.Begins.{command-of, begins}
 use Rattle.commands.specs.declared.Begun.{Begun}
 use Rattle.commands.specs.declared.Command.{Command as Asked}
-use Rattle.commands.specs.declared.Command.the-variants.{Enable, Disable, Rename, Repair}
+use Rattle.commands.specs.declared.Command.the-variants.{Enable, Disable, Rename, Create, Delete, Repair}
 use Rattle.commands.specs.declared.Outcome.the-variants.{Started, Refused as Not-started}
 use Rattle.book.specs.Kept.{new-name}
 use Rattle.bench.specs.Finished.{finished, left-finished, told, done-by, left-by, done-after, left-after, done-begun, left-begun}
@@ -52,6 +52,8 @@ unfolding name-bytes command-of
 names-of-bytes (Enable k) = tt
 names-of-bytes (Disable k) = tt
 names-of-bytes (Rename k) = name-of-bytes
+names-of-bytes (Create size) = name-of-bytes
+names-of-bytes (Delete k) = tt
 names-of-bytes Repair = tt
 
 -- ---- what the code does with a run and with a start

@@ -1,12 +1,12 @@
 -- Boot orders in rows: the slots that are meant, a slot left out, two rows compared. Assumes nothing.
 use mathlib.Core.Path.{_≡_, refl, sym, ap, _∙_}
 use mathlib.Core.Bool.{true, false, cond}
-use mathlib.Core.List.{List, [], _∷_, _++_}
+use mathlib.Core.List.{List, [], _∷_, _++_, map}
 use Prim.Native.Nat.{ℕ, min, _+_, _≤_, _<_}
 use native.Mathlib.Omega.{arith}
 use native.Mathlib.Numerals.{add-one}
 use lib.Dec.{eqb, leb}
-use lib.ListN.{length, take, drop, getD, drop-of-length-le, length-replicate}
+use lib.ListN.{length, take, drop, getD, drop-of-length-le, length-replicate, length-map}
 use lib.Seq.{take-all, take-suc, drop-cons, length-take-le}
 use borrow.Author.Tests.{leb-true, leb-false, le-leb, lt-leb, eq-eqb, ne-eqb}
 use Rattle.rules.specs.Lists.{same, without}
@@ -68,6 +68,37 @@ module _ {out after : List ℕ} {at end : ℕ} (k : ℕ) (slots : List ℕ) (i :
 
   pub others-all : length slots ≤ i → Put out at (without k slots) after end
   others-all h = rw take-all at before
+
+-- ---- each number changed
+
+module _ (f : ℕ → ℕ) where
+  map-append : (a b : List ℕ) → map f (a ++ b) ≡ map f a ++ map f b
+  map-append [] b = refl
+  map-append (x ∷ a) b = ap (λ (l : List ℕ). f x ∷ l) (map-append a b)
+
+  module _ {out after : List ℕ} {at end : ℕ} (slots : List ℕ) (i : ℕ)
+      (before : Put out at (map f (take i slots)) after end) where
+    pub changed-more : {last : List ℕ} {final : ℕ}
+        → i < length slots
+        → Put after end (f (getD slots i 0) ∷ []) last final
+        → Put out at (map f (take (i + 1) slots)) last final
+    changed-more h p =
+        rw (add-one, take-suc slots i 0 h, map-append (take i slots) (getD slots i 0 ∷ [])) (then before p)
+
+    pub changed-all : length slots ≤ i → Put out at (map f slots) after end
+    changed-all h = rw take-all at before
+
+  pub order-changed : (o : Order) (n : ℕ) {out after : List ℕ} {end : ℕ}
+      → length (o .row) ≡ room
+      → n ≡ min (o .count) room
+      → length out ≡ room
+      → Put out 0 (map f (take n (o .row))) after end
+      → take end after ≡ map f (slots-of o)
+  order-changed o n whole meant empty p =
+      put-whole
+      (omega (arith, length-map (take n (o .row)) f, length-take-le n (o .row) (omega arith)))
+      p
+      ∙ ap (map f) (slots-meant o n whole meant)
 
 -- ---- an order without a slot, or with it first
 

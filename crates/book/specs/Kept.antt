@@ -1,16 +1,17 @@
 -- What the values of the book stand for in document 01's words, and the change that a book takes. Assumes nothing.
 use mathlib.Core.Bool.{Bool, true, false, cond, _&&_}
-use mathlib.Core.List.{List, [], _∷_}
+use mathlib.Core.List.{List, [], _∷_, map}
 use Prim.Native.Nat.{ℕ}
-use lib.Dec.{leb}
+use lib.Dec.{leb, ltb}
 use lib.ListN.{take, length, replicate}
 use Rattle.rules.specs.Lists.{same}
 use Rattle.rules.specs.Bytes.{block-size}
 use Rattle.rules.specs.Answers.{Answer, refused, given}
 use Rattle.rules.specs.Table.{entry-count, entries}
-use Rattle.rules.specs.Readers.{slot-there}
-use Rattle.rules.specs.Commands.{Command, enable, disable, rename, repair}
-use Rattle.rules.specs.Book.{Reading, changed}
+use Rattle.rules.specs.declared.Setting.{Setting}
+use Rattle.rules.specs.Readers.{slot-row, slot-there}
+use Rattle.rules.specs.Commands.{Command, enable, disable, rename, create, delete, repair, size-right, without-row}
+use Rattle.rules.specs.Book.{Reading, lowered, changed}
 use Rattle.walks.specs.Entries.{most-entries}
 use Rattle.book.specs.declared.order.Order.{Order}
 use Rattle.book.specs.declared.Book.{Book}
@@ -18,7 +19,7 @@ use Rattle.book.specs.declared.Answer.{Answer as Answered}
 use Rattle.book.specs.declared.Answer.the-variants.{Given, Refused}
 use Rattle.book.specs.declared.Read.{Read}
 
--- the new name of every rename, "SOLVER_2027_JUL"
+-- the new name of every rename and of every create, "SOLVER_2027_JUL"
 abbrev pub new-name : List ℕ
 new-name =
     0x53 ∷ 0x4F ∷ 0x4C ∷ 0x56 ∷ 0x45 ∷ 0x52 ∷ 0x5F ∷ 0x32 ∷ 0x30 ∷ 0x32 ∷ 0x37 ∷ 0x5F ∷ 0x4A ∷ 0x55 ∷ 0x4C ∷ []
@@ -63,13 +64,26 @@ same-answer (given a) b = same-reading a b
 unfoldable pub has-slot : List ℕ → ℕ → Bool
 has-slot t k = leb (entry-count t) most-entries && slot-there (entries t) k
 
--- the change can be made: the order has room for a slot more, the table has the slot. So it is where the command started
+-- of so many entries a row is left, and the length of a new slot is right
+unfoldable pub has-row : ℕ → ℕ → Bool
+has-row n size = ltb n most-entries && size-right size
+
+-- the change can be made: the order has room for a slot more, the table has the slot or a row for one. So it is where the
+-- command started
 unfoldable pub takes : Command → Reading → Bool
 takes (enable k) r = leb (length (r .boot)) most-entries
 takes (disable k) r = true
 takes (rename k n) r = has-slot (r .table) k
+takes (create n size) r = has-row (entry-count (r .table)) size
+takes (delete k) r = has-slot (r .table) k
 takes repair r = true
 
--- document 01's change where it can be made, else none
-unfoldable pub taken : Command → Reading → Reading
-taken c r = cond (takes c r) (changed c r) r
+-- the documents' change where it can be made, else none
+unfoldable pub taken : Setting → List ℕ → Command → Reading → Reading
+taken s img c r = cond (takes c r) (changed s img c r) r
+
+-- that of a delete
+unfoldable pub deleted : ℕ → Reading → Reading
+deleted k r =
+    cond (has-slot (r .table) k)
+    (record { table = without-row (r .table) (slot-row (entries (r .table)) k); boot = map (lowered k) (r .boot) }) r

@@ -6,12 +6,13 @@ use reading::Listed;
 use reading::Viewed;
 use rules::Refusal;
 use rules::Setting;
+use rules::SlotNo;
 ghost use mathlib.Core.Path.{_≡_};
 ghost use Rattle.rules.specs.Lists.{same};
 ghost use Rattle.rules.specs.Copies.{pairs-agree};
 ghost use Rattle.rules.specs.Book.{reading};
 ghost use Rattle.commands.specs.Begins.{command-of};
-ghost use Rattle.book.specs.Kept.{new-name, reading-of, read-as, same-reading, same-answer, taken};
+ghost use Rattle.book.specs.Kept.{new-name, reading-of, read-as, same-reading, same-answer, taken, deleted};
 
 pub mod order;
 pub mod parts;
@@ -88,9 +89,12 @@ pub fn same_book(a: Book, b: Book) -> bool
     parts::same_bytes(&one, &other) & order::same_order(first, second)
 }
 
-// The book after a finished command; every rename is to the same name.
-pub fn booked(book: Book, command: Command) -> Book
-    ensures { λ r. ⌜ reading-of r ≡ taken (command-of command new-name) (reading-of book) ⌝ }
+// The book after a finished command on a flash; every rename and every create is to the same name. A create looks at the
+// flash for the start of the new slot.
+pub fn booked(book: Book, command: Command, image: &[u8], setting: Setting) -> Book
+    ensures { λ r. ⌜
+        reading-of r ≡ taken setting (now (image .entry)) (command-of command new-name) (reading-of book)
+        ⌝ }
 {
     let table = book.table;
     let order = book.order;
@@ -98,8 +102,27 @@ pub fn booked(book: Book, command: Command) -> Book
         Command::Enable(slot) => with_order(table, order::with_first(order, slot)),
         Command::Disable(slot) => with_order(table, order::without(order, slot)),
         Command::Rename(slot) => with_order(parts::renamed(table, slot), order),
+        Command::Create(size) => {
+            with_order(parts::with_new_slot(table, image, setting, size), order)
+        }
+        Command::Delete(slot) => deleted(book, slot),
         Command::Repair => book,
     }
+}
+
+// The book without a slot; as it was where its table has no such slot.
+fn deleted(book: Book, slot: SlotNo) -> Book
+    ensures { λ r. ⌜ reading-of r ≡ deleted (slot .0) (reading-of book) ⌝ }
+{
+    let table = book.table;
+    let order = book.order;
+    if !parts::has_slot(table, slot) {
+        return book;
+    }
+    with_order(
+        parts::without_slot(table, slot),
+        order::after_delete(order, slot),
+    )
 }
 
 fn with_order(table: [u8; 4096], order: Order) -> Book

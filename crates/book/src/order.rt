@@ -2,11 +2,12 @@
 use rules::SlotNo;
 ghost use mathlib.Core.Path.{_≡_};
 ghost use mathlib.Core.Bool.{cond};
-ghost use mathlib.Core.List.{[], _∷_};
+ghost use mathlib.Core.List.{[], _∷_, map};
 ghost use Prim.Native.Nat.{min};
 ghost use lib.Dec.{leb};
 ghost use lib.ListN.{length};
 ghost use Rattle.rules.specs.Lists.{same, without};
+ghost use Rattle.rules.specs.Book.{lowered};
 ghost use Rattle.walks.specs.Entries.{most-entries};
 ghost use Rattle.text.specs.Put.{Put};
 ghost use Rattle.book.specs.Kept.{room, no-slots, slots-of};
@@ -71,6 +72,29 @@ fn put_others(row: &mut [u32], at: usize, slots: &[u32], absent: SlotNo) -> usiz
     end
 }
 
+// A slot's number once another slot is gone.
+fn lowered(slot: SlotNo, gone: SlotNo) -> SlotNo
+    ensures { λ r. ⌜ r .0 ≡ lowered (gone .0) (slot .0) ⌝ }
+{
+    if gone.0 < slot.0 {
+        return SlotNo(slot.0 - 1);
+    }
+    slot
+}
+
+// Slots in their order, once another slot is gone.
+fn put_lowered(row: &mut [u32], at: usize, slots: &[u32], gone: SlotNo) -> usize
+    ensures { λ r. ⌜ Put (now (row .entry)) at (map (lowered (gone .0)) (now (slots .entry))) (now (row .exit)) r ⌝ }
+{
+    let mut end = at;
+    let mut i = 0;
+    while i < slots.len() {
+        end = put_slot(row, end, lowered(SlotNo(slots[i]), gone));
+        i += 1;
+    }
+    end
+}
+
 // ---- orders
 
 // An order without a slot.
@@ -81,6 +105,20 @@ pub fn without(order: Order, slot: SlotNo) -> Order
     let n = meant(order);
     let mut row = no_slots();
     let count = put_others(&mut row, 0, &old[..n], slot);
+    Order {
+        row: row,
+        count: count,
+    }
+}
+
+// An order once another slot is gone: each number above that slot's is one lower.
+pub fn after_delete(order: Order, gone: SlotNo) -> Order
+    ensures { λ r. ⌜ slots-of r ≡ map (lowered (gone .0)) (slots-of order) ⌝ }
+{
+    let old = order.row;
+    let n = meant(order);
+    let mut row = no_slots();
+    let count = put_lowered(&mut row, 0, &old[..n], gone);
     Order {
         row: row,
         count: count,

@@ -1,13 +1,18 @@
 // Tables by value.
+use reading::Viewed;
+use rules::Setting;
 use rules::SlotNo;
 ghost use mathlib.Core.Path.{_≡_};
-ghost use mathlib.Core.Bool.{cond};
+ghost use mathlib.Core.Bool.{true, cond};
+ghost use Prim.Native.Nat.{_<_};
 ghost use lib.ListN.{length};
 ghost use Rattle.rules.specs.Lists.{same};
 ghost use Rattle.rules.specs.Bytes.{block-size};
-ghost use Rattle.rules.specs.Commands.{padded-name};
-ghost use Rattle.rules.specs.Book.{renamed};
-ghost use Rattle.book.specs.Kept.{new-name, no-block, has-slot};
+ghost use Rattle.rules.specs.Table.{entry-count, entries};
+ghost use Rattle.rules.specs.Readers.{slot-row};
+ghost use Rattle.rules.specs.Commands.{padded-name, size-right, with-new-row, without-row};
+ghost use Rattle.rules.specs.Book.{renamed, start-for};
+ghost use Rattle.book.specs.Kept.{new-name, no-block, has-slot, has-row};
 
 // The new name of every rename.
 pub fn new_name() -> [u8; 15]
@@ -97,4 +102,69 @@ pub fn renamed(table: [u8; 4096], slot: SlotNo) -> [u8; 4096]
     let mut changed = table;
     text::put_bytes(&mut changed, entries::entry_offset(e), &name);
     changed
+}
+
+// A table has such a slot, among no more entries than there is room for.
+pub fn has_slot(table: [u8; 4096], slot: SlotNo) -> bool
+    ensures { λ r. ⌜ r ≡ has-slot table (slot .0) ⌝ }
+{
+    let n = entries::entry_count(&table);
+    if entries::MOST_ENTRIES < n {
+        return false;
+    }
+    (slot.0 as usize) < slots::count_slots(&table, n)
+}
+
+// A table without the row of a slot that it has.
+pub fn without_slot(table: [u8; 4096], slot: SlotNo) -> [u8; 4096]
+    requires { ⌜ has-slot table (slot .0) ≡ true ⌝ }
+    ensures { λ r. ⌜ r ≡ without-row table (slot-row (entries table) (slot .0)) ⌝ }
+{
+    let n = entries::entry_count(&table);
+    let e = slots::slot_row(&table, n, slot);
+    rooms::rows::without_row(&table, n, e)
+}
+
+// Where a new slot of this length starts on a flash; 0 where the flash cannot be read.
+fn start_for(image: &[u8], setting: Setting, size: u64) -> u64
+    requires { ⌜ (size-right size ≡ true) × (size < 0x100000000) ⌝ }
+    ensures { λ r. ⌜ r ≡ start-for setting (now (image .entry)) size ⌝ }
+{
+    let seen = reading::view(image, setting);
+    match seen {
+        Viewed::Refused(_) => 0,
+        Viewed::At(v) => {
+            let table_at = v.table;
+            let pointers_at = v.pointers;
+            let t = fields::block_at(image, table_at);
+            let p = fields::block_at(image, pointers_at);
+            let n = entries::entry_count(t);
+            let places = places::places_of(p);
+            rooms::starts::lowest_start(t, n, p, places, image.len() as u64, size)
+        }
+    }
+}
+
+// A row is left, and the length of a new slot is right.
+fn has_row(n: usize, size: u64) -> bool
+    ensures { λ r. ⌜ r ≡ has-row n size ⌝ }
+{
+    (n < entries::MOST_ENTRIES) & ((size != 0) & (size % 4096 == 0))
+}
+
+// A table with a row for a new slot of this length on a flash; as it was where no row is left or the length is not right.
+pub fn with_new_slot(table: [u8; 4096], image: &[u8], setting: Setting, size: u32) -> [u8; 4096]
+    ensures { λ r. ⌜
+        r ≡ cond (has-row (entry-count table) size)
+        (with-new-row table new-name (start-for setting (now (image .entry)) size) size) table
+        ⌝ }
+{
+    let long = size as u64;
+    let n = entries::entry_count(&table);
+    if !has_row(n, long) {
+        return table;
+    }
+    let start = start_for(image, setting, long);
+    let name = new_name();
+    rooms::rows::with_new_row(&table, n, &name, start, long)
 }

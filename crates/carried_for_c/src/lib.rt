@@ -32,7 +32,7 @@ pub fn run_if_started(
     let _ = linked::runs::delunkpawi_run(job, image, second, done);
 }
 
-// Any command by its function for C; the name is a rename's.
+// Any command by its function for C; the name is a rename's or a create's.
 pub fn begin(image: &[u8], setting: Setting, command: Command, name: &[u8], job: &mut [u8]) -> u8
     ensures { λ r. ⌜
         handed r (now (job .exit))
@@ -67,6 +67,23 @@ pub fn begin(image: &[u8], setting: Setting, command: Command, name: &[u8], job:
             spt1,
             slot.0,
             name,
+            job,
+        ),
+        Command::Create(length) => linked::starts::delunkpawi_create(
+            image,
+            granule,
+            spt0,
+            spt1,
+            name,
+            length,
+            job,
+        ),
+        Command::Delete(slot) => linked::starts::delunkpawi_delete(
+            image,
+            granule,
+            spt0,
+            spt1,
+            slot.0,
             job,
         ),
         Command::Repair => linked::starts::delunkpawi_repair(image, granule, spt0, spt1, job),

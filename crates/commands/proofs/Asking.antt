@@ -40,7 +40,7 @@ module _ (s : Setting) (img : List ℕ) (v : View) (c : Command) (r : Begun) whe
   unfolding returned job-by _>>=_
   returns-refused why er ea = rw ea er
 
-  returns-started : (j : Job) (ss : List Step) → r ≡ started j → j ≡ job-for (s .granule) img v c → job s img v c ≡ given ss
+  pub returns-started : (j : Job) (ss : List Step) → r ≡ started j → j ≡ job-for (s .granule) img v c → job s img v c ≡ given ss
       → r ≡ returned (job-by s img v c)
   unfolding returned job-by _>>=_
   returns-started j ss er ej ea = rw ea (er ∙ ap started ej)
@@ -89,7 +89,7 @@ module _ (s : Setting) (img : List ℕ) (v : View) (h : view s img ≡ given v) 
       (asked-first x (copies-equal img v) (slot-there (entries (block img (v .table))) k))
 
   module _ (o : Outcome) (asked : outcome o ≡ slot-asked img v k) where
-    refused-by : {A : Type 0} (x : Answer A) (why : Refusal) → o ≡ Refused why
+    pub refused-by : {A : Type 0} (x : Answer A) (why : Refusal) → o ≡ Refused why
         → unless 6 (agree-by s img v) (unless 7 (slot-there (entries (block img (v .table))) k) x) ≡ refused why
     unfolding outcome _>>=_
     refused-by x why q = asked-by x ∙ rw (← asked, q)
@@ -107,7 +107,7 @@ module _ (s : Setting) (img : List ℕ) (v : View) (h : view s img ≡ given v) 
     rename-refused name why q = refused-by _ why q
 
     module _ (q : o ≡ Started) where
-      passed-by : {A : Type 0} (x : Answer A)
+      pub passed-by : {A : Type 0} (x : Answer A)
           → unless 6 (agree-by s img v) (unless 7 (slot-there (entries (block img (v .table))) k) x) ≡ x
       unfolding outcome _>>=_
       passed-by x = asked-by x ∙ rw (← asked, q)

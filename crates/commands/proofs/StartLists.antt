@@ -1,22 +1,22 @@
 -- The job that a start returns denotes the listed steps of its command, none of them done, for the image's length and
 -- the granule. Assumes nothing.
 use mathlib.Core.Path.{_≡_, refl, subst}
-use mathlib.Core.Bool.{true}
+use mathlib.Core.Bool.{true, not}
 use mathlib.Core.List.{List, [], _∷_, append-nil}
 use Prim.Native.Nat.{ℕ}
 use native.Mathlib.Omega.{arith}
 use lib.Dec.{ltb}
 use borrow.Author.Tests.{ltb-true}
 use lib.ListN.{length, getD}
-use Rattle.rules.specs.Lists.{member}
+use Rattle.rules.specs.Lists.{member, any}
 use Rattle.rules.specs.Bytes.{block}
 use Rattle.rules.specs.Answers.{Answer, refused, given, unless, _>>=_}
 use Rattle.rules.specs.declared.Setting.{Setting}
-use Rattle.rules.specs.Table.{entries, starts}
+use Rattle.rules.specs.Table.{entry-count, entries, has-name, starts}
 use Rattle.rules.specs.Pointers.{place-count, places, order, pointers-stand}
 use Rattle.rules.specs.Copies.{view, agree-by, boot-order}
 use Rattle.rules.specs.Readers.{slot-row, slot-there}
-use Rattle.rules.specs.Commands.{Command, enable, disable, rename, repair, reorder-steps, free-place, is-first, into-place, into-places, append-steps, enable-steps, giving, clear-steps, half-cleared-names, disable-steps, has-already, rename-steps, name-allowed, name-free, enough-places, job, start}
+use Rattle.rules.specs.Commands.{Command, enable, disable, rename, create, delete, repair, has-start, size-right, create-steps, delete-steps, reorder-steps, free-place, is-first, into-place, into-places, append-steps, enable-steps, giving, clear-steps, half-cleared-names, disable-steps, has-already, rename-steps, name-allowed, name-free, enough-places, job, start}
 use Rattle.rules.specs.declared.Step.{Step}
 use Rattle.rules.specs.declared.View.{View}
 use Rattle.rules.proofs.Lists.Tests.{by-cases, given-inj, unless-given}
@@ -25,7 +25,7 @@ use Rattle.rules.proofs.Pointers.PointerHeader.{places-fit}
 use Rattle.blocks.specs.Made.{Lists}
 use Rattle.blocks.proofs.JobSteps.{rewrites-lists, no-steps-lists, pair-lists, places-lists}
 use Rattle.blocks.proofs.Walking.{giving-few, giving-below, length-places}
-use Rattle.commands.specs.JobFor.{reorder-job, in-places-job, enable-job, disable-job, rename-job, repair-job, job-for}
+use Rattle.commands.specs.JobFor.{reorder-job, in-places-job, enable-job, disable-job, rename-job, create-job, delete-job, repair-job, job-for}
 use Rattle.commands.specs.Begins.{returned, job-by, start-result, begins}
 use Rattle.commands.specs.declared.Begun.{Begun}
 use Rattle.commands.proofs.EqualCopies.{repair-by-copies}
@@ -102,6 +102,21 @@ module _ (s : Setting) (img : List ℕ) (v : View) (h : view s img ≡ given v) 
       let es = entries (block img (v .table)) in
       let (_, e10) = unless-given 10 (name-free es (slot-row es k) n) _ ss e9 in
       subst (ForImage (rename k n)) (given-inj _ ss e10) (rename-lists _ _ _ _ _ k n)
+  job-lists (create n size) ss e =
+      let t = block img (v .table) in
+      let (_, e9) = unless-given 6 (agree-by s img v) _ ss e in
+      let (_, e10) = unless-given 9 (name-allowed n) _ ss e9 in
+      let (_, e40) = unless-given 10 (not (any (has-name n) (entries t))) _ ss e10 in
+      let (_, e41) = unless-given 40 (size-right size) _ ss e40 in
+      let (_, e42) = unless-given 41 (ltb (entry-count t) 127) _ ss e41 in
+      let (_, listed) = unless-given 42
+      (has-start 0 (length img) (entries t) (places (block img (v .pointers))) size) _ ss e42 in
+      subst (ForImage (create n size)) (given-inj _ ss listed)
+      (unfold create-job create-steps in pair-lists _ _ (v .spt0) (v .spt1) _)
+  job-lists (delete k) ss e =
+      let (_, listed) = unless-given 43 (not (member k (boot-order img v))) _ ss (after-slot k _ ss e) in
+      subst (ForImage (delete k)) (given-inj _ ss listed)
+      (unfold delete-job delete-steps in pair-lists _ _ (v .spt0) (v .spt1) _)
   job-lists repair ss e =
       subst (ForImage repair) (given-inj _ ss e)
       (unfold repair-job in rw (repair-by-copies s img v h) (rewrites-lists _ _ _ _))

@@ -6,7 +6,7 @@ use Prim.Native.Nat.{ℕ}
 use Rattle.rules.specs.Answers.{Answer, refused, given, _>>=_}
 use Rattle.rules.specs.declared.Setting.{Setting}
 use Rattle.rules.specs.Copies.{view}
-use Rattle.rules.specs.Commands.{Command, enable, disable, rename, repair, job}
+use Rattle.rules.specs.Commands.{Command, enable, disable, rename, create, delete, repair, job}
 use Rattle.rules.specs.declared.Refusal.{Refusal}
 use Rattle.rules.specs.declared.Step.{Step}
 use Rattle.rules.specs.declared.View.{View}
@@ -15,14 +15,16 @@ use Rattle.blocks.specs.Made.{Lists, no-job}
 use Rattle.commands.specs.JobFor.{job-for}
 use Rattle.commands.specs.declared.Begun.{Begun}
 use Rattle.commands.specs.declared.Command.{Command as Asked}
-use Rattle.commands.specs.declared.Command.the-variants.{Enable, Disable, Rename, Repair}
+use Rattle.commands.specs.declared.Command.the-variants.{Enable, Disable, Rename, Create, Delete, Repair}
 use Rattle.commands.specs.declared.Outcome.the-variants.{Started, Refused}
 
--- document 01's command, by the code's and the name lent beside it
+-- the documents' command, by the code's and the name lent beside it
 unfoldable pub command-of : Asked → List ℕ → Command
 command-of (Enable slot) name = enable (slot .0)
 command-of (Disable slot) name = disable (slot .0)
 command-of (Rename slot) name = rename (slot .0) name
+command-of (Create size) name = create name size
+command-of (Delete slot) name = delete (slot .0)
 command-of Repair name = repair
 
 -- "A refusal returns its number and no job": the job of no steps stands beside it

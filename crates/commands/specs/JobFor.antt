@@ -10,7 +10,7 @@ use Rattle.rules.specs.Bytes.{bytes-of, block}
 use Rattle.rules.specs.Table.{entries, starts}
 use Rattle.rules.specs.Pointers.{place-offset, place-count, places, order}
 use Rattle.rules.specs.Readers.{slot-row}
-use Rattle.rules.specs.Commands.{Command, enable, disable, rename, repair, filled, pointers-of, free-place, is-first, giving, half-cleared-names, put-name, has-already}
+use Rattle.rules.specs.Commands.{Command, enable, disable, rename, create, delete, repair, filled, pointers-of, free-place, is-first, giving, half-cleared-names, put-name, has-already, created-start, with-new-row, without-row}
 use Rattle.rules.specs.declared.View.{View}
 use Rattle.jobs.specs.declared.Job.{Job}
 use Rattle.blocks.specs.Made.{rewrites, no-steps, pair-rewritten, places-noted, places-written}
@@ -47,6 +47,14 @@ module _ (len granule : ℕ) where
       cond (has-already (entries t) k n) (no-steps len granule)
       (pair-rewritten len granule t0 t1 (put-name t (slot-row (entries t) k) n))
 
+  -- as `create-steps`
+  unfoldable pub create-job : ℕ → ℕ → List ℕ → List ℕ → ℕ → ℕ → Job
+  create-job t0 t1 t n start size = pair-rewritten len granule t0 t1 (with-new-row t n start size)
+
+  -- as `delete-steps`
+  unfoldable pub delete-job : ℕ → ℕ → List ℕ → ℕ → Job
+  delete-job t0 t1 t k = pair-rewritten len granule t0 t1 (without-row t (slot-row (entries t) k))
+
 -- the copy that is not read, from the copy read, where the two are not equal
 unfoldable pub repaired : List ℕ → ℕ → ℕ → ℕ → Rewriting
 repaired img a0 a1 read =
@@ -66,4 +74,7 @@ job-for g img v (enable k) =
 job-for g img v (disable k) =
     disable-job (length img) g (v .cpb0) (v .cpb1) (starts (block img (v .table))) (block img (v .pointers)) k
 job-for g img v (rename k n) = rename-job (length img) g (v .spt0) (v .spt1) (block img (v .table)) k n
+job-for g img v (create n size) =
+    create-job (length img) g (v .spt0) (v .spt1) (block img (v .table)) n (created-start img v size) size
+job-for g img v (delete k) = delete-job (length img) g (v .spt0) (v .spt1) (block img (v .table)) k
 job-for g img v repair = repair-job g img v

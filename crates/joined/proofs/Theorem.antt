@@ -54,7 +54,7 @@ module _ (s : Setting) (Told : List ℕ → Reading → Type 0)
     by-code (c ∷ cs) (b ∷ bs) img r bytes e names done (h, f) =
         let (flash, ended) = item-by-code s img c bytes (names .0) (done .0) in
         let img′ : List ℕ = flash-after s img (item-of c) in
-        let r′ : Reading = booked the-commands (c .command) (outcome s img (item-of c)) b r in
+        let r′ : Reading = booked the-commands s img (c .command) (outcome s img (item-of c)) b r in
         rw (flash, ended) (
           shown img′ (outcome s img (item-of c)) r′ h,
           by-code cs bs img′ r′ (still-bytes s img r (item-of c) bytes (names .0) e) (h .reads) (names .1)

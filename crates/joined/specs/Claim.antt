@@ -21,8 +21,8 @@ module _ (Told : List ℕ → Reading → Type 0) (s : Setting) (t first : List 
   all-shown [] choices img r = Unit {0}
   all-shown (c ∷ cs) [] img r = ⊥
   all-shown (c ∷ cs) (b ∷ bs) img r =
-      Shown Told s t first (flash-left s img c) (ending img c) (booked the-commands (c .command) (ending img c) b r)
-      × all-shown cs bs (flash-left s img c) (booked the-commands (c .command) (ending img c) b r)
+      Shown Told s t first (flash-left s img c) (ending img c) (booked the-commands s img (c .command) (ending img c) b r)
+      × all-shown cs bs (flash-left s img c) (booked the-commands s img (c .command) (ending img c) b r)
 
 -- the readers tell some reading of the first flash, and there is one choice for each item with which the book, begun
 -- with that reading, has what the readers tell after every item

@@ -10,7 +10,7 @@ use Rattle.rules.specs.declared.Setting.{Setting}
 use Rattle.rules.specs.declared.Refusal.{Refusal}
 use Rattle.rules.specs.Table.{magic-right}
 use Rattle.rules.specs.Copies.{copy-read, no-table, table-read, pointers-read, view-through, view}
-use Rattle.rules.specs.Commands.{Command, enable, disable, rename, repair, job, start}
+use Rattle.rules.specs.Commands.{Command, enable, disable, rename, create, delete, repair, job, start}
 use Rattle.rules.specs.Cuts.{Progress, may-run}
 use Rattle.rules.specs.declared.View.{View}
 
@@ -69,6 +69,14 @@ job-not-zero s img v (disable k) =
 job-not-zero s img v (rename k n) =
     unless-not-zero _ _ _ _ (omega arith)
     (unless-not-zero _ _ _ _ (omega arith) (unless-not-zero _ _ _ _ (omega arith) (unless-not-zero _ _ _ _ (omega arith) tt)))
+job-not-zero s img v (create n size) =
+    unless-not-zero _ _ _ _ (omega arith)
+    (unless-not-zero _ _ _ _ (omega arith)
+    (unless-not-zero _ _ _ _ (omega arith)
+    (unless-not-zero _ _ _ _ (omega arith)
+    (unless-not-zero _ _ _ _ (omega arith) (unless-not-zero _ _ _ _ (omega arith) tt)))))
+job-not-zero s img v (delete k) =
+    unless-not-zero _ _ _ _ (omega arith) (unless-not-zero _ _ _ _ (omega arith) (unless-not-zero _ _ _ _ (omega arith) tt))
 job-not-zero s img v repair = tt
 
 pub start-not-zero : (s : Setting) (img : List ℕ) (c : Command) → NotZero (start s img c)

@@ -4,6 +4,7 @@ pub mod Held
 pub mod AfterRun
 pub mod AfterCount
 pub mod MadeTyped
+pub mod RowLengths
 pub mod StartTyped
 pub mod Beginning
 pub mod NamedEntries

@@ -7,15 +7,15 @@ use native.Mathlib.Omega.{arith}
 use lib.Dec.{eqb, ltb}
 use borrow.Author.Tests.{ltb-true, leb-true}
 use lib.ListN.{length, getD, length-map, length-reverse}
-use Rattle.rules.specs.Lists.{without}
+use Rattle.rules.specs.Lists.{without, any}
 use Rattle.rules.specs.Bytes.{bytes-of, block, block-size}
 use Rattle.rules.specs.Answers.{Answer, refused, given, _>>=_}
 use Rattle.rules.specs.declared.Setting.{Setting}
-use Rattle.rules.specs.Table.{entries, slots, starts}
+use Rattle.rules.specs.Table.{entry-count, entries, has-name, slots, starts}
 use Rattle.rules.specs.Pointers.{place-offset, place-count, places, order}
 use Rattle.rules.specs.Copies.{view, agree-by}
 use Rattle.rules.specs.Readers.{slot-row, slot-there}
-use Rattle.rules.specs.Commands.{Command, enable, disable, rename, repair, filled, pointers-of, free-place, is-first, giving, half-cleared-names, has-already, put-name, name-allowed, slot-empty, enough-places, job}
+use Rattle.rules.specs.Commands.{Command, enable, disable, rename, create, delete, repair, created-start, with-new-row, without-row, size-right, filled, pointers-of, free-place, is-first, giving, half-cleared-names, has-already, put-name, name-allowed, slot-empty, enough-places, job}
 use Rattle.rules.specs.declared.Step.{Step}
 use Rattle.rules.specs.declared.View.{View}
 use Rattle.rules.proofs.Lists.Tests.{by-cases, unless-given}
@@ -29,14 +29,15 @@ use Rattle.rules.proofs.Table.PutName.{put-length}
 use Rattle.rules.proofs.Table.Renaming.{slot-row-found, allowed}
 use Rattle.reading.proofs.Seen.{seen, blocks-inside}
 use Rattle.jobs.specs.Jobs.{place-room}
-use Rattle.blocks.specs.Made.{no-job}
+use Rattle.blocks.specs.Made.{no-job, pair-rewritten}
 use Rattle.blocks.proofs.Walking.{giving-few, length-places}
 use Rattle.reading.specs.Inner.Located.{Located}
-use Rattle.commands.specs.JobFor.{reorder-job, in-places-job, enable-job, disable-job, rename-job, repaired, repair-job, job-for}
+use Rattle.commands.specs.JobFor.{reorder-job, in-places-job, enable-job, disable-job, rename-job, create-job, delete-job, repaired, repair-job, job-for}
 use Rattle.commands.specs.Begins.{returned, job-by, start-result}
 use Rattle.reading.proofs.Opening.{located}
 use Rattle.commands.proofs.EqualCopies.{either-within}
 use Rattle.job_bytes.proofs.RoundTrip.{Typed}
+use Rattle.linked.proofs.RowLengths.{length-with-new-row, length-without-row}
 use Rattle.linked.proofs.MadeTyped.{rewrites-typed, no-steps-typed, pair-typed, places-typed}
 
 length-pointers : (starts o : List ℕ) → length (pointers-of starts o) ≡ length o
@@ -133,6 +134,27 @@ module _ (s : Setting) (img : List ℕ) (v : View) (h : view s img ≡ given v) 
       (put-length t n row (length-block img (v .table) (l .table-inside)) (l .count-right)
       (omega (arith, is-row, length-entries t)) few)))
 
+  -- ---- create and delete
+
+  tables-typed : (b : List ℕ) → length b ≡ block-size → Typed (pair-rewritten (length img) (s .granule) (v .spt0) (v .spt1) b)
+  tables-typed b whole =
+      pair-typed (length img) (s .granule) short fine (v .spt0) (v .spt1)
+      (omega (arith, l .short, l .spt0-inside)) (omega (arith, l .short, l .spt1-inside)) b whole
+
+  create-typed : (n : List ℕ) (size : ℕ) → length n ≤ 15 → entry-count t < 127 → Fits (create n size)
+  unfolding job-for create-job
+  create-typed n size few room =
+      tables-typed (with-new-row t n (created-start img v size) size)
+      (length-with-new-row t n (created-start img v size) size (length-block img (v .table) (l .table-inside)) room few)
+
+  delete-typed : (k : ℕ) → k < length (slots (entries t)) → Fits (delete k)
+  unfolding job-for delete-job
+  delete-typed k there =
+      let is-row = slot-row-found (entries t) k there .0 in
+      tables-typed (without-row t (slot-row (entries t) k))
+      (length-without-row t (slot-row (entries t) k) (length-block img (v .table) (l .table-inside)) (l .count-right)
+      (omega (arith, is-row, length-entries t)))
+
   -- ---- repair
 
   repaired-fits : (a0 a1 read : ℕ)
@@ -167,6 +189,17 @@ module _ (s : Setting) (img : List ℕ) (v : View) (h : view s img ≡ given v) 
       let (there, e9) = unless-given 7 (ltb k (length (slots (entries t)))) _ ss e7 in
       let (right, _) = unless-given 9 (name-allowed n) _ ss e9 in
       rename-typed k n (ltb-true k (length (slots (entries t))) there) (allowed n right .short)
+  job-typed (create n size) ss e =
+      let (_, e9) = unless-given 6 (agree-by s img v) _ ss e in
+      let (right, e10) = unless-given 9 (name-allowed n) _ ss e9 in
+      let (_, e40) = unless-given 10 (not (any (has-name n) (entries t))) _ ss e10 in
+      let (_, e41) = unless-given 40 (size-right size) _ ss e40 in
+      let (room, _) = unless-given 41 (ltb (entry-count t) 127) _ ss e41 in
+      create-typed n size (allowed n right .short) (ltb-true (entry-count t) 127 room)
+  job-typed (delete k) ss e =
+      let (_, e7) = unless-given 6 (agree-by s img v) _ ss e in
+      let (there, _) = unless-given 7 (ltb k (length (slots (entries t)))) _ ss e7 in
+      delete-typed k (ltb-true k (length (slots (entries t))) there)
   job-typed repair ss e = repair-typed
 
   seen-typed : (c : Command) → Typed (returned (job-by s img v c) .job)

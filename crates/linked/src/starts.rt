@@ -7,7 +7,7 @@ use rules::SlotNo;
 ghost use mathlib.Core.Path.{_≡_};
 ghost use lib.ListN.{length};
 ghost use Rattle.rules.specs.Numbers.{setting};
-ghost use Rattle.rules.specs.Commands.{enable, disable, rename, repair};
+ghost use Rattle.rules.specs.Commands.{enable, disable, rename, create, delete, repair};
 ghost use Rattle.commands.specs.Begins.{command-of, start-result};
 ghost use Rattle.job_bytes.specs.Form.{job-size};
 ghost use Rattle.linked.specs.Begun.{handed, handed-over, started-into};
@@ -119,6 +119,54 @@ pub extern "C" fn delunkpawi_rename(
         spt1: spt1,
     };
     start_into(image, setting, Command::Rename(SlotNo(slot)), name, job)
+}
+
+// Create a slot of a length: it comes last in the table, at the lowest start that is free and that no place holds.
+#[no_mangle]
+pub extern "C" fn delunkpawi_create(
+    image: &[u8],
+    granule: usize,
+    spt0: usize,
+    spt1: usize,
+    name: &[u8],
+    length: u32,
+    job: &mut [u8],
+) -> u8
+    ensures { λ r. ⌜
+        handed r (now (job .exit))
+        ≡ started-into (now (job .entry))
+        (start-result (setting granule spt0 spt1) (now (image .entry)) (create (now (name .entry)) length))
+        ⌝ }
+{
+    let setting = Setting {
+        granule: granule,
+        spt0: spt0,
+        spt1: spt1,
+    };
+    start_into(image, setting, Command::Create(length), name, job)
+}
+
+// Delete a slot that is not in the boot order: the slots after it are one number lower.
+#[no_mangle]
+pub extern "C" fn delunkpawi_delete(
+    image: &[u8],
+    granule: usize,
+    spt0: usize,
+    spt1: usize,
+    slot: u32,
+    job: &mut [u8],
+) -> u8
+    ensures { λ r. ⌜
+        handed r (now (job .exit))
+        ≡ started-into (now (job .entry)) (start-result (setting granule spt0 spt1) (now (image .entry)) (delete slot))
+        ⌝ }
+{
+    let setting = Setting {
+        granule: granule,
+        spt0: spt0,
+        spt1: spt1,
+    };
+    start_into(image, setting, Command::Delete(SlotNo(slot)), b"", job)
 }
 
 // Repair: where a pair disagrees, the copy not read becomes the copy read.

@@ -38,14 +38,14 @@ fn image_buffer() -> [u8; LONGEST]
 
 // ---- one cut
 
-// A command of 16 steps or more: it enables a slot that is not the first.
+// A command of 16 steps or more: it enables one of the first two slots that is not the first of the order.
 fn further(cut: Book) -> Command {
     let order = cut.order;
     let row = order.row;
-    if row[0] == 2 {
+    if row[0] == 0 {
         return Command::Enable(SlotNo(1));
     }
-    Command::Enable(SlotNo(2))
+    Command::Enable(SlotNo(0))
 }
 
 fn is_long(done: Done) -> bool {
@@ -83,8 +83,9 @@ fn is_repaired(work: &mut [u8], setting: Setting, cut: Book) -> bool {
 // A further command leaves what the book says.
 fn is_right_then(work: &mut [u8], setting: Setting, cut: Book) -> bool {
     let next = further(cut);
+    let expected = book::booked(cut, next, work, setting);
     let long = is_long(bench::finish(work, setting, next));
-    let held = book::reads_as(book::read_book(work, setting), book::booked(cut, next));
+    let held = book::reads_as(book::read_book(work, setting), expected);
     long & (held & book::pairs_agree(work, setting))
 }
 
@@ -197,7 +198,14 @@ fn try_start(image: &[u8], flash: &mut [u8], work: &mut [u8], setting: Setting, 
     let begun = bench::begin(image, setting, command);
     let job = begun.job;
     let answer = begun.answer;
-    let sum = try_job(flash, work, setting, job, old, book::booked(old, command));
+    let sum = try_job(
+        flash,
+        work,
+        setting,
+        job,
+        old,
+        book::booked(old, command, image, setting),
+    );
     printing::print_result(answer, jobs::remaining(job), sum);
 }
 
@@ -220,12 +228,16 @@ fn try_slot(image: &[u8], setting: Setting, slot: SlotNo) {
     try_command(image, setting, Command::Disable(slot));
     printing::print_command(b"rename ", slot);
     try_command(image, setting, Command::Rename(slot));
+    printing::print_command(b"delete ", slot);
+    try_command(image, setting, Command::Delete(slot));
 }
 
 fn try_image(image: &[u8], setting: Setting) {
     try_slot(image, setting, SlotNo(0));
     try_slot(image, setting, SlotNo(1));
     try_slot(image, setting, SlotNo(2));
+    io::write_all(STDOUT_FILENO, b"create 4096: ");
+    try_command(image, setting, Command::Create(4096));
     io::write_all(STDOUT_FILENO, b"repair: ");
     try_command(image, setting, Command::Repair);
 }
@@ -255,6 +267,7 @@ fn main() {
     try_file(b"four_places.img", setting);
     try_file(b"moved_offset_2048.img", setting);
     try_file(b"two_shapes.img", setting);
+    try_file(b"deleted.img", setting);
     let middle = Setting {
         granule: 32768,
         spt0: 0x10000,

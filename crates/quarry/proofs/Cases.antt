@@ -10,7 +10,7 @@ use Rattle.rules.specs.Table.{table-stands}
 use Rattle.rules.specs.Steps.{steps}
 use Rattle.rules.specs.Commands.{name-allowed}
 use Rattle.quarry.specs.Quarry.{quarry-setting, longer-length, longer-table}
-use Rattle.quarry.specs.Cases.{Row, holds, starred, unstarred, case-1, case-2, case-3, case-4, case-5, case-6, case-7, case-7-full, case-8, case-8-shown, case-8-inside, case-9, case-10, case-empty, case-last-byte, case-0x28, case-one-place, case-four-places, case-two-shapes}
+use Rattle.quarry.specs.Cases.{Row, holds, starred, unstarred, case-1, case-2, case-3, case-4, case-5, case-6, case-7, case-7-full, case-8, case-8-shown, case-8-inside, case-9, case-10, case-reused, case-held, case-empty, case-last-byte, case-0x28, case-one-place, case-four-places, case-two-shapes}
 use Rattle.rules.specs.declared.Step.{Step}
 use Rattle.quarry.proofs.Opened.{rules}
 use Rattle.rules.proofs.Steps.Programming.{fast-steps, fast-is-steps}
@@ -52,6 +52,14 @@ case-7-full-computed = refl
 case-9-computed : holds fast-steps case-9 ≡ true
 unfolding rules case-9
 case-9-computed = refl
+
+case-reused-computed : holds fast-steps case-reused ≡ true
+unfolding rules case-reused
+case-reused-computed = refl
+
+case-held-computed : holds fast-steps case-held ≡ true
+unfolding rules case-held
+case-held-computed = refl
 
 case-empty-computed : holds fast-steps case-empty ≡ true
 unfolding rules case-empty
@@ -108,6 +116,8 @@ starred-computed =
       case-7-computed,
       case-7-full-computed,
       case-9-computed,
+      case-reused-computed,
+      case-held-computed,
       case-empty-computed,
       case-last-byte-computed,
       case-0x28-computed,
@@ -125,7 +135,7 @@ unstarred-computed =
 by-steps : (rs : List Row) → all (holds fast-steps) rs ≡ true → all (holds steps) rs ≡ true
 by-steps rs = subst (λ (f : ℕ → List Step → List ℕ → List ℕ). all (holds f) rs ≡ true) fast-is-steps
 
--- document 01's starred cases, and document 02's of empty slots and of pointer blocks of another shape
+-- document 01's starred cases, and document 02's of empty slots, of other shapes of a pointer block, of create and delete
 pub starred-hold : all (holds steps) starred ≡ true
 starred-hold = by-steps starred starred-computed
 

@@ -15,12 +15,12 @@ use Rattle.rules.specs.Pointers.{pointers-stand, places, erased-value, judged, 
 use Rattle.rules.specs.Copies.{copy-read, no-table, pair-agrees, dump-stands, standing-dump}
 use Rattle.rules.specs.Readers.{order-in, row-after, slot-row, facts, name-in}
 use Rattle.rules.specs.Steps.{programmed, wiped, steps, programs, rewrite, rewrite-pair}
-use Rattle.rules.specs.Commands.{pointer-bytes, filled, pointers-of, free-place, is-first, slot-empty, into-place, append-steps, giving, into-places, half-cleared-names, padded-name, put-name, name-allowed, name-free, rename-steps, repair-pair, enable, disable, rename}
-use Rattle.rules.specs.Cuts.{Progress, run, may-run, runs, wiped-where, half-done, dropped}
-use Rattle.rules.specs.Book.{Reading, the-commands, was-refused, finished, cut, how-ended, renamed, booked}
-use Rattle.quarry.specs.Quarry.{quarry-setting, padded, entry-bytes, quarry-table, quarry-pointers}
 use Rattle.rules.specs.declared.Fault.{Fault}
-use Rattle.rules.specs.declared.Place.the-variants.{Erased, Spent, Live, PartWritten, Stray}
+use Rattle.rules.specs.Commands.{pointer-bytes, filled, pointers-of, free-place, is-first, into-place, append-steps, giving, into-places, half-cleared-names, padded-name, put-name, name-allowed, name-free, rename-steps, may-start, upward, lowest-start, has-start, new-row, with-new-row, without-row, size-right, repair-pair, enable, disable, rename, delete, slot-empty}
+use Rattle.rules.specs.Cuts.{Progress, run, may-run, runs, half-done, dropped, wiped-where}
+use Rattle.rules.specs.Book.{Reading, the-commands, was-refused, finished, cut, how-ended, renamed, booked}
+use Rattle.quarry.specs.Quarry.{quarry-setting, padded, entry-bytes, quarry-table, quarry-pointers, shorter-table}
+use Rattle.rules.specs.declared.Place.the-variants.{Erased, Live, Spent, PartWritten, Stray}
 use Rattle.rules.specs.declared.Step.{Step}
 use Rattle.rules.specs.declared.Step.the-variants.{Program, Erase}
 use Rattle.quarry.proofs.Opened.{rules}
@@ -266,6 +266,27 @@ rename-and-repair-examples :
 unfolding rules table
 rename-and-repair-examples = (refl, refl, refl, refl, refl, refl, refl, refl, refl)
 
+-- the quarry table has room from 0xB000 on, and 0xC000 is held
+create-and-delete-examples :
+    (upward 3 0x2000 ≡ 0x2000 ∷ 0x3000 ∷ 0x4000 ∷ [])
+    × (map (may-start 0x10000 (entries table) (0xC000 ∷ []) 0x1000) (0xA000 ∷ 0xB000 ∷ 0xC000 ∷ 0xF000 ∷ 0x10000 ∷ [])
+    ≡ false ∷ true ∷ false ∷ true ∷ false ∷ [])
+    × (map (lowest-start 0 0x10000 (entries table) (0xB000 ∷ [])) (0x1000 ∷ 0x4000 ∷ 0x5000 ∷ [])
+    ≡ 0xC000 ∷ 0xC000 ∷ 0x10000 ∷ [])
+    × (map (has-start 0 0x10000 (entries table) (0xB000 ∷ [])) (0x1000 ∷ 0x4000 ∷ 0x5000 ∷ [])
+    ≡ true ∷ true ∷ false ∷ [])
+    × (lowest-start 0xD000 0x10000 (entries table) [] 0x1000 ≡ 0xD000)
+    × (map size-right (0 ∷ 0x1000 ∷ 0x1001 ∷ 0xFFFFF000 ∷ []) ≡ false ∷ true ∷ false ∷ true ∷ [])
+    × (new-row (80 ∷ 52 ∷ []) 0xB000 0x1000 ≡ entry-bytes (80 ∷ 52 ∷ []) 0xB000 0x1000 0)
+    × (entries (with-new-row table (80 ∷ 52 ∷ []) 0xB000 0x1000)
+    ≡ entries table ++ (entry (entry-bytes (80 ∷ 52 ∷ []) 0xB000 0x1000 0) ∷ []))
+    × (starts (without-row table 7) ≡ 0x8000 ∷ 0xA000 ∷ [])
+    × (without-row table 8 ≡ shorter-table)
+    × (take 64 (drop (0x20 + 32 * 7) (without-row (with-new-row table (80 ∷ []) 0xB000 0x1000) 8))
+    ≡ entry-bytes (80 ∷ 50 ∷ []) 0x9000 0x1000 0 ++ entry-bytes (80 ∷ []) 0xB000 0x1000 0)
+unfolding rules table
+create-and-delete-examples = (refl, refl, refl, refl, refl, refl, refl, refl, refl, refl, refl)
+
 -- ---- runs and cuts
 
 run-and-cut-examples :
@@ -294,12 +315,13 @@ book o = record { table = table; boot = o }
 
 book-examples :
     (map how-ended ([] ∷ (Erase 0 ∷ []) ∷ []) ≡ finished ∷ cut ∷ [])
-    × (booked the-commands (enable 2) was-refused true (book (1 ∷ 0 ∷ [])) ≡ book (1 ∷ 0 ∷ []))
-    × (booked the-commands (enable 2) finished false (book (1 ∷ 0 ∷ [])) ≡ book (2 ∷ 1 ∷ 0 ∷ []))
-    × (booked the-commands (enable 0) cut true (book (1 ∷ 0 ∷ [])) ≡ book (0 ∷ 1 ∷ []))
-    × (booked the-commands (enable 0) cut false (book (1 ∷ 0 ∷ [])) ≡ book (1 ∷ 0 ∷ []))
-    × (booked the-commands (disable 1) finished false (book (1 ∷ 0 ∷ [])) ≡ book (0 ∷ []))
-    × (booked the-commands (rename 1 (80 ∷ 50 ∷ [])) finished true (book []) ≡ book [])
+    × (booked the-commands quarry-setting [] (enable 2) was-refused true (book (1 ∷ 0 ∷ [])) ≡ book (1 ∷ 0 ∷ []))
+    × (booked the-commands quarry-setting [] (enable 2) finished false (book (1 ∷ 0 ∷ [])) ≡ book (2 ∷ 1 ∷ 0 ∷ []))
+    × (booked the-commands quarry-setting [] (enable 0) cut true (book (1 ∷ 0 ∷ [])) ≡ book (0 ∷ 1 ∷ []))
+    × (booked the-commands quarry-setting [] (enable 0) cut false (book (1 ∷ 0 ∷ [])) ≡ book (1 ∷ 0 ∷ []))
+    × (booked the-commands quarry-setting [] (disable 1) finished false (book (1 ∷ 0 ∷ [])) ≡ book (0 ∷ []))
+    × (booked the-commands quarry-setting [] (delete 0) finished true (book (2 ∷ 1 ∷ [])) .boot ≡ 1 ∷ 0 ∷ [])
+    × (booked the-commands quarry-setting [] (rename 1 (80 ∷ 50 ∷ [])) finished true (book []) ≡ book [])
     × (name-in (entries (renamed table 1 (65 ∷ []))) 1 ≡ 65 ∷ [])
 unfolding rules table
-book-examples = (refl, refl, refl, refl, refl, refl, refl, refl)
+book-examples = (refl, refl, refl, refl, refl, refl, refl, refl, refl)

@@ -9,10 +9,11 @@ use Rattle.rules.specs.Lists.{same, all}
 use Rattle.rules.specs.Bytes.{block, erased-byte}
 use Rattle.rules.specs.Answers.{Answer, refused, given}
 use Rattle.rules.specs.Pointers.{place-offset, places}
-use Rattle.rules.specs.Readers.{order-list}
-use Rattle.rules.specs.Commands.{Command, enable, disable, repair, start}
+use Rattle.rules.specs.Readers.{order-list, table-part}
+use Rattle.rules.specs.Commands.{Command, enable, disable, create, delete, repair, start}
 use Rattle.rules.specs.Cuts.{half-done}
-use Rattle.quarry.specs.Quarry.{quarry-setting, quarry, quarry-sent, quarry-p3, quarry-used-to, other-byte, quarry-0x28, quarry-one-place, quarry-four-places, quarry-two-shapes, quarry-moved}
+use Rattle.quarry.specs.Quarry.{quarry-setting, quarry, quarry-sent, quarry-p3, quarry-used-to, other-byte, quarry-0x28, quarry-one-place, quarry-four-places, quarry-two-shapes, quarry-moved, quarry-held}
+use Rattle.rules.specs.Table.{entry-count, starts}
 use Rattle.rules.specs.declared.Step.{Step}
 use Rattle.rules.specs.declared.Step.the-variants.{Program, Erase}
 
@@ -29,12 +30,14 @@ pub data Ending : Type 0 where
   cut-inside : ℕ → List Bool → Ending
 
 -- a command started, with what is expected of it, and its job run; the boot order expected; the value expected at a place
--- of the pointer block at an address; the bytes expected at an address
+-- of the pointer block at an address; the bytes expected at an address; the number of entries expected, and the slots'
+-- starts
 pub data Line : Type 0 where
   command : Command → List Expected → Ending → Line
   order-is : List ℕ → Line
   place-holds : ℕ → ℕ → ℕ → Line
   bytes-at : ℕ → List ℕ → Line
+  table-has : ℕ → List ℕ → Line
 
 -- the image from which a case starts, and its lines, each on what the one before left
 pub record Row : Type 0 where
@@ -79,6 +82,10 @@ unfoldable pub is-order : List ℕ → Answer (List ℕ) → Bool
 is-order o (refused n) = false
 is-order o (given p) = same p o
 
+-- a table with this many entries and slots that start there
+unfoldable pub has-entries : ℕ → List ℕ → List ℕ → Bool
+has-entries n at t = eqb (entry-count t) n && same (starts t) at
+
 -- a row with room for every slot of a table
 abbrev pub room : ℕ
 room = 127
@@ -111,6 +118,7 @@ module _ (carried-out : ℕ → List Step → List ℕ → List ℕ) where
   holds-from (order-is o ∷ ls) img = is-order o (order-list quarry-setting img room) && holds-from ls img
   holds-from (place-holds c k v ∷ ls) img = eqb (getD (places (block img c)) k 0) v && holds-from ls img
   holds-from (bytes-at a bs ∷ ls) img = same (take (length bs) (drop a img)) bs && holds-from ls img
+  holds-from (table-has n at ∷ ls) img = has-entries n at (table-part quarry-setting img) && holds-from ls img
 
   unfoldable pub holds : Row → Bool
   holds r = holds-from (r .script) (r .flash)
@@ -190,6 +198,31 @@ case-9 = record {
       ∷ [];
 }
 
+-- document 02, No. 5: "delete slot 2, create P4 of 0x1000: it gets 0xA000"
+unfoldable pub case-reused : Row
+case-reused = record {
+  flash = quarry;
+  script =
+      command (delete 2) (step-count 8202 ∷ []) to-the-end
+      ∷ order-is (1 ∷ 0 ∷ [])
+      ∷ table-has 8 (0x8000 ∷ 0x9000 ∷ [])
+      ∷ command (create (80 ∷ 52 ∷ []) 0x1000) (step-count 8202 ∷ []) to-the-end
+      ∷ order-is (1 ∷ 0 ∷ [])
+      ∷ table-has 9 (0x8000 ∷ 0x9000 ∷ 0xA000 ∷ [])
+      ∷ [];
+}
+
+-- "without P3's row and with 0xA000 in place 2, create P4: it gets 0xB000"
+unfoldable pub case-held : Row
+case-held = record {
+  flash = quarry-held;
+  script =
+      command (create (80 ∷ 52 ∷ []) 0x1000) (step-count 8202 ∷ []) to-the-end
+      ∷ order-is (1 ∷ 0 ∷ [])
+      ∷ table-has 9 (0x8000 ∷ 0x9000 ∷ 0xB000 ∷ [])
+      ∷ [];
+}
+
 -- document 02, No. 2: an empty slot is refused 14, first already or not; a slot that is not there is refused 7
 unfoldable pub case-empty : Row
 case-empty = record {
@@ -265,6 +298,8 @@ starred =
     ∷ case-7
     ∷ case-7-full
     ∷ case-9
+    ∷ case-reused
+    ∷ case-held
     ∷ case-empty
     ∷ case-last-byte
     ∷ case-0x28

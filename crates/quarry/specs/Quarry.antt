@@ -108,6 +108,16 @@ quarry-two-shapes = take 0x7000 quarry-sent ++ drop 0x7000 quarry-0x28
 unfoldable pub quarry-moved : List ℕ
 quarry-moved = image 73728 (quarry-table 0x11000 0x10000) (quarry-pointers (0x11000 ∷ 0x10000 ∷ [])) []
 
+-- the quarry table without P3's row
+unfoldable pub shorter-table : List ℕ
+shorter-table =
+    padded block-size 0
+    (take 8 (quarry-table 0x8000 0x9000) ++ (bytes-of 4 8 ++ take (20 + 32 * 8) (drop 12 (quarry-table 0x8000 0x9000))))
+
+-- document 02, No. 5: the quarry image without P3's row and with 0xA000 in place 2
+unfoldable pub quarry-held : List ℕ
+quarry-held = image 65536 shorter-table (quarry-pointers (0x8000 ∷ 0x9000 ∷ 0xA000 ∷ [])) []
+
 -- n slots of 0x1000 one after the other, named Q and a number
 unfoldable pub more-entries : ℕ → ℕ → List ℕ
 more-entries zero start = []

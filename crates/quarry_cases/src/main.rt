@@ -1,6 +1,7 @@
-// Runs the cases of document 01, and of document 02, Nos. 2 and 9, on the images under data/ and prints what happens.
+// Runs the cases of document 01, and of document 02, Nos. 2, 9 and 5, on the images under data/ and prints what happens.
 use commands::Command;
 use libc::STDOUT_FILENO;
+use rules::EntryNo;
 use rules::PlaceNo;
 use rules::Setting;
 use rules::SlotNo;
@@ -44,6 +45,15 @@ fn finish_rename(image: &mut [u8], name: &[u8]) {
     io::write_all(STDOUT_FILENO, name);
     io::write_all(STDOUT_FILENO, b": ");
     printing::print_done(bench::run_begun(image, begun));
+}
+
+// Creates P4 of 0x1000, which becomes the entry of this number.
+fn create_p4(image: &mut [u8], entry: EntryNo) {
+    let begun = commands::start_create(image, quarry(), b"P4", 0x1000);
+    io::write_all(STDOUT_FILENO, b"create P4 4096: ");
+    printing::print_done(bench::run_begun(image, begun));
+    printing::print_entry_start(image, entry);
+    print_order(image);
 }
 
 // A command cut after some steps.
@@ -124,6 +134,14 @@ fn rewrite_cut(image: &mut [u8], steps: usize) {
     print_order(image);
 }
 
+// A slot in the order is not deleted; the room of one that is deleted is found again.
+fn deleted_then_created(image: &mut [u8]) {
+    finish(image, Command::Delete(SlotNo(1)));
+    finish(image, Command::Delete(SlotNo(2)));
+    print_order(image);
+    create_p4(image, EntryNo(8));
+}
+
 fn names(image: &mut [u8]) {
     finish_rename(image, b"fifteen_bytes_x");
     finish_rename(image, b"sixteen_bytes_xx");
@@ -145,6 +163,8 @@ enum Case {
     Disable(SlotNo),
     Names,
     OrderOnly,
+    DeletedThenCreated,
+    Created(EntryNo),
 }
 
 fn run_case(case: Case, image: &mut [u8]) {
@@ -161,6 +181,8 @@ fn run_case(case: Case, image: &mut [u8]) {
         Case::Disable(slot) => finish(image, Command::Disable(slot)),
         Case::Names => names(image),
         Case::OrderOnly => print_order(image),
+        Case::DeletedThenCreated => deleted_then_created(image),
+        Case::Created(entry) => create_p4(image, entry),
     }
 }
 
@@ -239,5 +261,15 @@ fn main() {
         b"two copies of different shape\n",
         b"two_shapes.img",
         Case::TwoShapes,
+    );
+    on_image(
+        b"create in the room of a deleted slot\n",
+        b"quarry.img",
+        Case::DeletedThenCreated,
+    );
+    on_image(
+        b"create where a place holds the lowest free start\n",
+        b"held.img",
+        Case::Created(EntryNo(8)),
     );
 }

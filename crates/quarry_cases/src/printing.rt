@@ -5,6 +5,7 @@ use book::order::Order;
 use book::order::ROOM;
 use commands::Command;
 use libc::STDOUT_FILENO;
+use rules::EntryNo;
 use rules::PlaceNo;
 use rules::Refusal;
 use rules::Setting;
@@ -21,6 +22,12 @@ pub fn print_command(command: Command) {
         Command::Enable(slot) => print_named(b"enable ", slot),
         Command::Disable(slot) => print_named(b"disable ", slot),
         Command::Rename(slot) => print_named(b"rename ", slot),
+        Command::Create(length) => {
+            io::write_all(STDOUT_FILENO, b"create ");
+            io::print_decimal(STDOUT_FILENO, length as u64);
+            io::write_all(STDOUT_FILENO, b": ");
+        }
+        Command::Delete(slot) => print_named(b"delete ", slot),
         Command::Repair => {
             io::write_all(STDOUT_FILENO, b"repair: ");
         }
@@ -118,4 +125,20 @@ fn place_at(image: &[u8], block: usize, place: PlaceNo) -> usize {
         return 0;
     }
     block + fields::le32(image, block + 0x10) as usize + 8 * place.0
+}
+
+// Where the entry of a number starts, by the table at 0x4000.
+pub fn print_entry_start(image: &[u8], entry: EntryNo) {
+    io::write_all(STDOUT_FILENO, b"SPT0 entry ");
+    io::print_decimal(STDOUT_FILENO, entry.0 as u64);
+    io::write_all(STDOUT_FILENO, b" start: ");
+    io::print_hex(STDOUT_FILENO, value_at(image, entry_at(entry)), 16);
+    io::write_all(STDOUT_FILENO, b"\n");
+}
+
+fn entry_at(entry: EntryNo) -> usize {
+    if 127 <= entry.0 {
+        return 0;
+    }
+    0x4030 + 32 * entry.0
 }

@@ -33,6 +33,9 @@ fn begin(setting: Setting, image: &[u8], asked: Command, line: &[u8]) -> Begun {
         Command::Disable(slot) => commands::start_disable(image, setting, slot),
         Command::Rename(slot) => begin_rename(setting, image, slot, script::last_word(line)),
         Command::RenameToNothing(slot) => commands::start_rename(image, setting, slot, b""),
+        Command::Create(length) => begin_create(setting, image, length, script::last_word(line)),
+        Command::CreateUnnamed(length) => commands::start_create(image, setting, b"", length),
+        Command::Delete(slot) => commands::start_delete(image, setting, slot),
         Command::Repair => commands::start_repair(image, setting),
     }
 }
@@ -57,4 +60,21 @@ fn begin_rename_to(
     let n = least(word.len() / 2, name.len());
     script::hex::decode(word, &mut name[0..n]);
     commands::start_rename(image, setting, slot, &name[0..n])
+}
+
+fn begin_create(setting: Setting, image: &[u8], length: u32, word: &[u8]) -> Begun {
+    let mut name = name_room();
+    begin_create_named(setting, image, length, word, &mut name)
+}
+
+fn begin_create_named(
+    setting: Setting,
+    image: &[u8],
+    length: u32,
+    word: &[u8],
+    name: &mut [u8],
+) -> Begun {
+    let n = least(word.len() / 2, name.len());
+    script::hex::decode(word, &mut name[0..n]);
+    commands::start_create(image, setting, &name[0..n], length)
 }

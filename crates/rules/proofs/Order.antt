@@ -1,3 +1,4 @@
 pub mod Ordering
 pub mod Clearing
 pub mod OnceEach
+pub mod SlotsMoved

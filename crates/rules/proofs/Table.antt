@@ -1,8 +1,14 @@
 pub mod Standing
 pub mod SlotStarts
 pub mod PutName
+pub mod Replacing
 pub mod Renaming
+pub mod RowBytes
+pub mod StartRule
+pub mod Creating
+pub mod Deleting
 pub mod TableJobs
 pub mod RenameJob
+pub mod SlotJobs
 pub mod Faults
 pub mod WhichEntry

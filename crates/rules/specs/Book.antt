@@ -2,8 +2,9 @@
 -- nothing.
 use mathlib.Core.Path.{_≡_}
 use mathlib.Core.Bool.{Bool, true, cond}
-use mathlib.Core.List.{List, [], _∷_}
-use Prim.Native.Nat.{ℕ, _+_, _≤_, _<_}
+use mathlib.Core.List.{List, [], _∷_, map}
+use Prim.Native.Nat.{ℕ, _+_, _-_, _≤_, _<_}
+use lib.Dec.{ltb}
 use lib.ListN.{getD, length}
 use Rattle.rules.specs.Lists.{without}
 use Rattle.rules.specs.Bytes.{block, Bytes}
@@ -12,7 +13,7 @@ use Rattle.rules.specs.declared.Setting.{Setting}
 use Rattle.rules.specs.Table.{entries, cpb0-of, cpb1-of}
 use Rattle.rules.specs.Copies.{view, boot-order, pairs-agree}
 use Rattle.rules.specs.Readers.{slot-row}
-use Rattle.rules.specs.Commands.{Command, enable, disable, rename, repair, has-already, put-name, start}
+use Rattle.rules.specs.Commands.{Command, enable, disable, rename, create, delete, repair, has-already, put-name, created-start, with-new-row, without-row, start}
 use Rattle.rules.specs.Cuts.{Progress, runs, dropped}
 use Rattle.rules.specs.declared.Step.{Step}
 use Rattle.rules.specs.declared.View.{View}
@@ -36,30 +37,52 @@ reading s img = view s img >>= λ v. given (read-by img v)
 unfoldable pub renamed : List ℕ → ℕ → List ℕ → List ℕ
 renamed t k n = cond (has-already (entries t) k n) t (put-name t (slot-row (entries t) k) n)
 
-unfoldable pub changed : Command → Reading → Reading
-changed (enable k) r = record { table = r .table; boot = k ∷ without k (r .boot) }
-changed (disable k) r = record { table = r .table; boot = without k (r .boot) }
-changed (rename k n) r = record { table = renamed (r .table) k n; boot = r .boot }
-changed repair r = r
+-- the start that the rule gives for a flash; 0 for one that cannot be read, on which nothing is created
+unfoldable pub start-by : List ℕ → ℕ → Answer View → ℕ
+start-by img size (refused why) = 0
+start-by img size (given v) = created-start img v size
+
+unfoldable pub start-for : Setting → List ℕ → ℕ → ℕ
+start-for s img size = start-by img size (view s img)
+
+-- "lowers by one each number in the order above the deleted slot's"
+unfoldable pub lowered : ℕ → ℕ → ℕ
+lowered k j = cond (ltb k j) (j - 1) j
+
+-- The setting and the flash that the command got are there for create alone: the start of a new slot depends on the
+-- pointer places that give no slot, and these are in no reading
+unfoldable pub changed : Setting → List ℕ → Command → Reading → Reading
+changed s img (enable k) r = record { table = r .table; boot = k ∷ without k (r .boot) }
+changed s img (disable k) r = record { table = r .table; boot = without k (r .boot) }
+changed s img (rename k n) r = record { table = renamed (r .table) k n; boot = r .boot }
+changed s img (create n size) r =
+    record { table = with-new-row (r .table) n (start-for s img size) size; boot = r .boot }
+changed s img (delete k) r = record {
+  table = without-row (r .table) (slot-row (entries (r .table)) k);
+  boot = map (lowered k) (r .boot);
+}
+changed s img repair r = r
 
 -- the elements of a name are bytes
 unfoldable pub name-bytes : Command → Type 0
 name-bytes (enable k) = Unit {0}
 name-bytes (disable k) = Unit {0}
 name-bytes (rename k n) = Bytes n
+name-bytes (create n size) = Bytes n
+name-bytes (delete k) = Unit {0}
 name-bytes repair = Unit {0}
 
 -- ---- a set of commands
 
--- how a command is started (every refusal in its order, or the listed steps), the change that it stands for, and what
--- holds of its arguments
+-- how a command is started (every refusal in its order, or the listed steps), the change that it stands for on the flash
+-- that it got, and what holds of its arguments
 pub record CommandSet : Type 1 where
   pub Command : Type 0
   pub start : Setting → List ℕ → Command → Answer (List Step)
-  pub changed : Command → Reading → Reading
+  pub changed : Setting → List ℕ → Command → Reading → Reading
   pub proper : Command → Type 0
 
--- document 01's: enable, disable, rename and repair
+-- document 01's and 02's: enable, disable, rename, create, delete and repair
 abbrev pub the-commands : CommandSet
 the-commands = record { Command = Command; start = start; changed = changed; proper = name-bytes }
 
@@ -101,11 +124,12 @@ module _ {C : CommandSet} where
 
 -- ---- the book
 
--- the book is fed the command and which of the three it was; a cut one made its change or none, by a choice
-unfoldable pub booked : (C : CommandSet) → C .Command → Outcome → Bool → Reading → Reading
-booked C c was-refused choice r = r
-booked C c finished choice r = C .changed c r
-booked C c cut choice r = cond choice (C .changed c r) r
+-- the book is fed the command, the flash that it got and which of the three it was; a cut one made its change or none,
+-- by a choice
+unfoldable pub booked : (C : CommandSet) → Setting → List ℕ → C .Command → Outcome → Bool → Reading → Reading
+booked C s img c was-refused choice r = r
+booked C s img c finished choice r = C .changed s img c r
+booked C s img c cut choice r = cond choice (C .changed s img c r) r
 
 -- ---- the claim
 
@@ -142,8 +166,8 @@ module _ {C : CommandSet} where
     follows [] choices img r = Unit {0}
     follows (i ∷ is) [] img r = ⊥
     follows (i ∷ is) (b ∷ bs) img r =
-        Holds s t first (flash-after s img i) (outcome s img i) (booked C (i .command) (outcome s img i) b r)
-        × follows is bs (flash-after s img i) (booked C (i .command) (outcome s img i) b r)
+        Holds s t first (flash-after s img i) (outcome s img i) (booked C s img (i .command) (outcome s img i) b r)
+        × follows is bs (flash-after s img i) (booked C s img (i .command) (outcome s img i) b r)
 
   -- what holds of the arguments of each item's command
   unfoldable pub all-proper : List (Item C) → Type 0

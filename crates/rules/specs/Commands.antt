@@ -1,14 +1,15 @@
--- The listed steps of enable, disable, rename and repair, and refusals 6 to 10, 14 and 15. Assumes nothing.
+-- The listed steps of enable, disable, rename, create, delete and repair, with refusals 6 to 10, 14, 15 and 40 to 43.
+-- Assumes nothing.
 use mathlib.Core.Bool.{Bool, true, false, not, cond, _&&_, _||_}
 use mathlib.Core.List.{List, [], _∷_, _++_, map, reverse}
 use Prim.Native.Nat.{ℕ, zero, suc, _+_, _*_, _-_, _/_}
 use lib.Dec.{eqb, leb, ltb}
 use lib.ListN.{take, drop, getD, length, replicate}
-use Rattle.rules.specs.Lists.{member, without, all, any}
-use Rattle.rules.specs.Bytes.{bytes-of, block, erased-byte}
+use Rattle.rules.specs.Lists.{member, without, all, any, first}
+use Rattle.rules.specs.Bytes.{bytes-of, block, block-size, erased-byte, multiple}
 use Rattle.rules.specs.Answers.{Answer, given, unless, _>>=_}
 use Rattle.rules.specs.declared.Setting.{Setting}
-use Rattle.rules.specs.Table.{Entry, entries, has-name, is-fixed-name, starts, table-stands}
+use Rattle.rules.specs.Table.{Entry, entry-count, entries, has-name, is-fixed-name, range-inside, ranges-apart, starts, table-stands}
 use Rattle.rules.specs.Pointers.{place-offset, place-count, places, order, judged, is-erased, gives, pointers-stand}
 use Rattle.rules.specs.Copies.{view, boot-order, pair-agrees, agree-by}
 use Rattle.rules.specs.Readers.{slot-row, slot-entry, slot-there}
@@ -143,6 +144,82 @@ unfoldable pub rename-steps : ℕ → ℕ → List ℕ → ℕ → List ℕ → 
 rename-steps t0 t1 t k n =
     cond (has-already (entries t) k n) [] (rewrite-pair t0 t1 (put-name t (slot-row (entries t) k) n))
 
+-- ---- a table with other rows
+
+-- another count, and other bytes from the first row on; bytes 0 to 7 and 12 to 31 "stay"
+unfoldable pub with-rows : List ℕ → ℕ → List ℕ → List ℕ
+with-rows t count bs = take 8 t ++ (bytes-of 4 count ++ (take 20 (drop 12 t) ++ bs))
+
+-- n rows of a table from row i on, "each with all its 32 bytes"
+unfoldable pub row-bytes : ℕ → ℕ → List ℕ → List ℕ
+row-bytes i n t = take (32 * n) (drop (0x20 + 32 * i) t)
+
+-- ---- create
+
+-- a range that has no name yet
+unfoldable pub new-range : ℕ → ℕ → Entry
+new-range start size = record { name-field = []; start = start; size = size; flags = 0 }
+
+-- "whose range fits the image and overlaps no partition, and which no place of the pointer block read holds": for an
+-- image of this length, its entries, the values of the places and the length of the new slot
+unfoldable pub may-start : ℕ → List Entry → List ℕ → ℕ → ℕ → Bool
+may-start len es ps size a =
+    range-inside len (new-range a size) && all (ranges-apart (new-range a size)) es && not (member a ps)
+
+-- n multiples of 4,096, upward from one of them
+unfoldable pub upward : ℕ → ℕ → List ℕ
+upward zero a = []
+upward (suc n) a = a ∷ upward n (a + block-size)
+
+-- from one of them on, as many as an image of this length has
+unfoldable pub candidates : ℕ → ℕ → List ℕ
+candidates from len = upward (len / block-size) from
+
+-- one of them may be the start
+unfoldable pub has-start : ℕ → ℕ → List Entry → List ℕ → ℕ → Bool
+has-start from len es ps size = any (may-start len es ps size) (candidates from len)
+
+-- "the lowest multiple of 4,096" that may be the start, from one on; the image's length where there is none
+unfoldable pub lowest-start : ℕ → ℕ → List Entry → List ℕ → ℕ → ℕ
+lowest-start from len es ps size = first (may-start len es ps size) len (candidates from len)
+
+-- "name and zeros up to 16, start, length, flags 0"
+unfoldable pub new-row : List ℕ → ℕ → ℕ → List ℕ
+new-row n start size = padded-name n ++ (bytes-of 8 start ++ (bytes-of 4 size ++ bytes-of 4 0))
+
+-- "The new entry comes last"; the count is one more, and the rows behind it are as they were
+unfoldable pub with-new-row : List ℕ → List ℕ → ℕ → ℕ → List ℕ
+with-new-row t n start size =
+    with-rows t (suc (entry-count t))
+    (row-bytes 0 (entry-count t) t ++ (new-row n start size ++ drop (0x20 + 32 * suc (entry-count t)) t))
+
+-- the start of a slot of this length, created on a flash with this view
+unfoldable pub created-start : List ℕ → View → ℕ → ℕ
+created-start img v size =
+    lowest-start 0 (length img) (entries (block img (v .table))) (places (block img (v .pointers))) size
+
+-- refusal 40: "length 0 or not a multiple of 4,096"
+unfoldable pub size-right : ℕ → Bool
+size-right size = not (eqb size 0) && multiple block-size size
+
+-- "Create"
+unfoldable pub create-steps : ℕ → ℕ → List ℕ → List ℕ → ℕ → ℕ → List Step
+create-steps t0 t1 t n start size = rewrite-pair t0 t1 (with-new-row t n start size)
+
+-- ---- delete
+
+-- "Rows after it close up; the count is one less; every uncounted row becomes zero"
+unfoldable pub without-row : List ℕ → ℕ → List ℕ
+without-row t row =
+    with-rows t (entry-count t - 1)
+    (row-bytes 0 row t
+    ++ (row-bytes (suc row) (entry-count t - suc row) t
+    ++ replicate (32 * (128 - entry-count t)) 0))
+
+-- "Delete s"
+unfoldable pub delete-steps : ℕ → ℕ → List ℕ → ℕ → List Step
+delete-steps t0 t1 t k = rewrite-pair t0 t1 (without-row t (slot-row (entries t) k))
+
 -- ---- repair
 
 -- "where a pair disagrees, the copy not read is rewritten from the copy read"
@@ -161,6 +238,8 @@ repair-steps s img v =
 pub data Command : Type 0 where
   enable disable : ℕ → Command
   rename : ℕ → List ℕ → Command
+  create : List ℕ → ℕ → Command
+  delete : ℕ → Command
   repair : Command
 
 -- the refusals after 5, in their order, or the listed steps
@@ -182,6 +261,19 @@ job s img v (rename k n) =
     (unless 9 (name-allowed n)
     (unless 10 (name-free (entries (block img (v .table))) (slot-row (entries (block img (v .table))) k) n)
     (given (rename-steps (v .spt0) (v .spt1) (block img (v .table)) k n)))))
+job s img v (create n size) =
+    unless 6 (agree-by s img v)
+    (unless 9 (name-allowed n)
+    (unless 10 (not (any (has-name n) (entries (block img (v .table)))))
+    (unless 40 (size-right size)
+    (unless 41 (ltb (entry-count (block img (v .table))) 127)
+    (unless 42 (has-start 0 (length img) (entries (block img (v .table))) (places (block img (v .pointers))) size)
+    (given (create-steps (v .spt0) (v .spt1) (block img (v .table)) n (created-start img v size) size)))))))
+job s img v (delete k) =
+    unless 6 (agree-by s img v)
+    (unless 7 (slot-there (entries (block img (v .table))) k)
+    (unless 43 (not (member k (boot-order img v)))
+    (given (delete-steps (v .spt0) (v .spt1) (block img (v .table)) k))))
 job s img v repair = given (repair-steps s img v)
 
 -- a command started: every refusal in its order, or the listed steps

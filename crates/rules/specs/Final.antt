@@ -11,7 +11,7 @@ use Rattle.rules.specs.Table.{entries, starts, table-stands}
 use Rattle.rules.specs.Pointers.{place-offset, place-count, places, order, pointers-stand}
 use Rattle.rules.specs.Copies.{pair-agrees}
 use Rattle.rules.specs.Readers.{slot-row}
-use Rattle.rules.specs.Commands.{Command, enable, disable, rename, repair, filled, pointers-of, free-place, is-first, giving, half-cleared-names, put-name, has-already}
+use Rattle.rules.specs.Commands.{Command, enable, disable, rename, create, delete, repair, filled, pointers-of, free-place, is-first, giving, half-cleared-names, put-name, has-already, created-start, with-new-row, without-row}
 use Rattle.rules.specs.declared.View.{View}
 
 -- bytes put at an address, every other byte as it was
@@ -67,6 +67,11 @@ final s img v (enable k) =
 final s img v (disable k) =
     disabled (s .granule) (v .cpb0) (v .cpb1) (starts (block img (v .table))) (block img (v .pointers)) k img
 final s img v (rename k n) = with-new-name (s .granule) (v .spt0) (v .spt1) (block img (v .table)) k n img
+final s img v (create n size) =
+    put-pair (s .granule) (v .spt0) (v .spt1) (with-new-row (block img (v .table)) n (created-start img v size) size) img
+final s img v (delete k) =
+    put-pair (s .granule) (v .spt0) (v .spt1)
+    (without-row (block img (v .table)) (slot-row (entries (block img (v .table))) k)) img
 final s img v repair =
     repaired (s .granule) pointers-stand (v .cpb0) (v .cpb1) (v .pointers)
     (repaired (s .granule) (table-stands s (length img)) (v .spt0) (v .spt1) (v .table) img)

@@ -15,7 +15,7 @@ use Rattle.script.specs.declared.Line.{Line}
 use Rattle.script.specs.declared.Line.the-variants.{Nothing, Change, Question, Command, Steps, Error}
 use Rattle.script.specs.declared.Change.the-variants.{Image, Length, Setting, Put, Copy}
 use Rattle.script.specs.declared.Question.the-variants.{Order, Listing, Slot, Peek, Sum, Dumps}
-use Rattle.script.specs.declared.Command.the-variants.{Enable, Disable, Rename, RenameToNothing, Repair}
+use Rattle.script.specs.declared.Command.the-variants.{Enable, Disable, Rename, RenameToNothing, Create, CreateUnnamed, Delete, Repair}
 use Rattle.script.specs.declared.Steps.the-variants.{Run, Cut, Torn}
 
 -- ---- tests
@@ -24,7 +24,7 @@ use Rattle.script.specs.declared.Steps.the-variants.{Run, Cut, Torn}
 unfoldable pub takes : List ℕ → List ℕ → Row → ℕ → Bool
 takes verb name row n = same verb name && row .numeric && eqb (row .count) n
 
--- one number that is a slot's: "slots at most 2^32 - 1"
+-- one number that is a slot's or a length: "slots at most 2^32 - 1"
 unfoldable pub takes-slot : List ℕ → List ℕ → Row → Bool
 takes-slot verb name row = takes verb name row 1 && leb (row .first) 4294967295
 
@@ -74,6 +74,9 @@ module _ (verb : List ℕ) (row : Row) where
       ∷ (takes-slot verb (ascii "disable") row, Command (Disable (slot-of row)))
       ∷ (takes-slot verb (ascii "rename") hexed, Command (Rename (slot-of hexed)))
       ∷ (takes-slot verb (ascii "rename") row, Command (RenameToNothing (slot-of row)))
+      ∷ (takes-slot verb (ascii "create") hexed, Command (Create (hexed .first)))
+      ∷ (takes-slot verb (ascii "create") row, Command (CreateUnnamed (row .first)))
+      ∷ (takes-slot verb (ascii "delete") row, Command (Delete (slot-of row)))
       ∷ (takes verb (ascii "repair") row 0, Command Repair)
       ∷ []
 

@@ -41,12 +41,16 @@ pub enum Question {
     Dumps(usize, usize, usize, usize),
 }
 
-// `enable`, `disable`, `rename` with the line's last word, `rename` with an empty name, `repair`.
+// `enable`, `disable`, `rename` with the line's last word, `rename` with an empty name, `create` with a length and the
+// line's last word, `create` with an empty name, `delete`, `repair`.
 pub enum Command {
     Enable(SlotNo),
     Disable(SlotNo),
     Rename(SlotNo),
     RenameToNothing(SlotNo),
+    Create(u32),
+    CreateUnnamed(u32),
+    Delete(SlotNo),
     Repair,
 }
 

@@ -29,7 +29,7 @@ fn takes(verb: &[u8], name: &[u8], row: Row, count: usize) -> bool
     check::same(verb, name) & row.numeric & (row.count == count)
 }
 
-// One number that a slot may have.
+// One number that a slot or a length may have.
 fn takes_slot(verb: &[u8], name: &[u8], row: Row) -> bool
     ensures { λ r. ⌜ r ≡ takes-slot (now (verb .entry)) (now (name .entry)) row ⌝ }
 {
@@ -148,6 +148,21 @@ pub fn command_line(verb: &[u8], row: Row, hexed: Row, otherwise: Line) -> Line
     line = form(
         takes_slot(verb, b"rename", row),
         Line::Command(Command::RenameToNothing(slot)),
+        line,
+    );
+    line = form(
+        takes_slot(verb, b"create", hexed),
+        Line::Command(Command::Create(named.0)),
+        line,
+    );
+    line = form(
+        takes_slot(verb, b"create", row),
+        Line::Command(Command::CreateUnnamed(slot.0)),
+        line,
+    );
+    line = form(
+        takes_slot(verb, b"delete", row),
+        Line::Command(Command::Delete(slot)),
         line,
     );
     form(

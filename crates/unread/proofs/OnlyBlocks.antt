@@ -20,7 +20,7 @@ use Rattle.rules.specs.Table.{entries, table-stands, starts, cpb0-of, cpb1-of}
 use Rattle.rules.specs.Pointers.{pointers-stand}
 use Rattle.rules.specs.Copies.{table-read, pointers-read, view-through, view, boot-order, pair-agrees, tables-agree, pointers-agree, agree-by, agreed, pairs-agree, no-table}
 use Rattle.rules.specs.Readers.{slot-there, order-list, table-of, table-part, slot-count, slot-facts, slot-name}
-use Rattle.rules.specs.Commands.{Command, enable, disable, rename, repair, repair-pair, repair-steps, slot-empty, enough-places, enable-steps, job, start}
+use Rattle.rules.specs.Commands.{Command, enable, disable, rename, create, delete, repair, created-start, repair-pair, repair-steps, slot-empty, enough-places, enable-steps, job, start}
 use Rattle.rules.specs.Book.{read-by, reading}
 use Rattle.rules.specs.declared.View.{View}
 use Rattle.rules.proofs.Lists.Tests.{given-inj, bind-given, unless-given}
@@ -181,7 +181,7 @@ module _ (s : Setting) (img img′ : List ℕ) (same : SameBlocks s img img′) 
   unless-same n m false test test′ a h = refl
 
   job-same : (c : Command) → SameSlot s img img′ c → (v : View) → BlocksSame v → job s img v c ≡ job s img′ v c
-  unfolding SameSlot job boot-order repair-steps repair-pair pair-agrees slot-empty
+  unfolding SameSlot job boot-order created-start repair-steps repair-pair pair-agrees slot-empty
   job-same (enable k) slot v b =
       let t = block img (v .table) in
       let a = getD (starts t) k 0 in
@@ -196,6 +196,8 @@ module _ (s : Setting) (img img′ : List ℕ) (same : SameBlocks s img img′) 
       )
   job-same (disable k) _ v b = rw (agree-same v b, b .table, b .pointers)
   job-same (rename k n) _ v b = rw (agree-same v b, b .table)
+  job-same (create n size) _ v b = rw (agree-same v b, same .same-length, b .table, b .pointers)
+  job-same (delete k) _ v b = rw (agree-same v b, b .table, b .pointers)
   job-same repair _ v b =
       rw (same .same-length, b .table, b .pointers, b .spt0, b .spt1, b .cpb0, b .cpb1)
 

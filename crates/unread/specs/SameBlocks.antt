@@ -11,7 +11,7 @@ use Rattle.rules.specs.declared.Setting.{Setting}
 use Rattle.rules.specs.Table.{entries, starts, cpb0-of, cpb1-of}
 use Rattle.rules.specs.Copies.{table-read}
 use Rattle.rules.specs.Readers.{slot-there}
-use Rattle.rules.specs.Commands.{Command, enable, disable, rename, repair}
+use Rattle.rules.specs.Commands.{Command, enable, disable, rename, create, delete, repair}
 
 -- as long as each other, and the same 4,096 bytes at the start of both tables and, by the table read, of both pointer
 -- blocks
@@ -35,4 +35,6 @@ SameSlot s img img′ (enable k) = (at : ℕ)
     → block img (getD (starts (block img at)) k 0) ≡ block img′ (getD (starts (block img at)) k 0)
 SameSlot s img img′ (disable k) = Unit {0}
 SameSlot s img img′ (rename k n) = Unit {0}
+SameSlot s img img′ (create n size) = Unit {0}
+SameSlot s img img′ (delete k) = Unit {0}
 SameSlot s img img′ repair = Unit {0}

@@ -432,6 +432,40 @@ impl Setting {
         })
     }
 
+    /// A job by which a new slot of a length comes into the table, at the lowest free start that no place holds.
+    pub fn create(&self, image: &[u8], name: &[u8], length: u32) -> Result<Job, Refused> {
+        self.started(image, |job| unsafe {
+            raw::delunkpawi_create(
+                image.as_ptr(),
+                image.len(),
+                self.granule,
+                self.spt0,
+                self.spt1,
+                name.as_ptr(),
+                name.len(),
+                length,
+                job.as_mut_ptr(),
+                job.len(),
+            )
+        })
+    }
+
+    /// A job by which a slot that is not in the boot order leaves the table. The slots after it are one number lower.
+    pub fn delete(&self, image: &[u8], slot: u32) -> Result<Job, Refused> {
+        self.started(image, |job| unsafe {
+            raw::delunkpawi_delete(
+                image.as_ptr(),
+                image.len(),
+                self.granule,
+                self.spt0,
+                self.spt1,
+                slot,
+                job.as_mut_ptr(),
+                job.len(),
+            )
+        })
+    }
+
     /// A job by which the copies of a pair that disagree become the copy read.
     pub fn repair(&self, image: &[u8]) -> Result<Job, Refused> {
         self.started(image, |job| unsafe {

@@ -153,6 +153,28 @@ extern "C" {
         job: *mut u8,
         job_length: usize,
     ) -> u8;
+    pub fn delunkpawi_create(
+        image: *const u8,
+        image_length: usize,
+        granule: usize,
+        spt0: usize,
+        spt1: usize,
+        name: *const u8,
+        name_length: usize,
+        length: u32,
+        job: *mut u8,
+        job_length: usize,
+    ) -> u8;
+    pub fn delunkpawi_delete(
+        image: *const u8,
+        image_length: usize,
+        granule: usize,
+        spt0: usize,
+        spt1: usize,
+        slot: u32,
+        job: *mut u8,
+        job_length: usize,
+    ) -> u8;
     pub fn delunkpawi_repair(
         image: *const u8,
         image_length: usize,

@@ -1,6 +1,6 @@
 -- `booked` makes each command's change. Assumes nothing.
 use Rattle.commands.specs.Begins.{command-of}
-use Rattle.book.proofs.Changes.{enabled, disabled, with-name, repaired}
+use Rattle.book.proofs.Changes.{enabled, disabled, with-name, with-slot, without-slot, repaired}
 use borrow.Author.Needs.{needs}
 use Rattle.book.proofs.booked.Statement.{statement}
 use Rattle.book.proofs.booked.Tie as tie
@@ -32,30 +32,73 @@ renamed-requires c κs = search needs
 with-order-requires-3 : tie.Need-with-order-requires-3
 with-order-requires-3 c κs = search needs
 
+enum-known-command-4 : tie.Need-enum-known-command-4
+enum-known-command-4 c = search needs
+
+with-new-slot-requires : tie.Need-with-new-slot-requires
+with-new-slot-requires c κs = search needs
+
+with-order-requires-4 : tie.Need-with-order-requires-4
+with-order-requires-4 c κs = search needs
+
+enum-known-command-5 : tie.Need-enum-known-command-5
+enum-known-command-5 c = search needs
+
+deleted-requires : tie.Need-deleted-requires
+deleted-requires c κs = search needs
+
 enum-told : tie.Need-enum-told
 enum-told c = search needs
 
 returns : tie.Need-returns
 unfolding command-of
 returns c =
-    rw (c .with-order .ensures, c .before .before .before .command .given .1)
-    (enabled (c .before .before .before .before .before .before .before .args .book) _ (c .before .with-first .result) (c .before .with-first .ensures))
+    let made = c .before in
+    let asked = made .before .before in
+    let a = asked .before .before .before .before .before .args in
+    rw (c .with-order .ensures, asked .command .given .1)
+    (enabled (a .setting) (a .image .now) (a .book) _ (made .with-first .result) (made .with-first .ensures))
 
 returns-2 : tie.Need-returns-2
 unfolding command-of
 returns-2 c =
-    rw (c .with-order2 .ensures, c .before .before .before .command2 .given .1)
-    (disabled (c .before .before .before .before .before .before .before .args .book) _ (c .before .without .result) (c .before .without .ensures))
+    let made = c .before in
+    let asked = made .before .before in
+    let a = asked .before .before .before .before .before .args in
+    rw (c .with-order2 .ensures, asked .command2 .given .1)
+    (disabled (a .setting) (a .image .now) (a .book) _ (made .without .result) (made .without .ensures))
 
 returns-3 : tie.Need-returns-3
 unfolding command-of
 returns-3 c =
-    rw (c .with-order3 .ensures, c .before .before .before .command3 .given .1)
-    (with-name (c .before .before .before .before .before .before .before .args .book) _ (c .before .renamed .result) (c .before .renamed .ensures))
+    let made = c .before in
+    let asked = made .before .before in
+    let a = asked .before .before .before .before .before .args in
+    rw (c .with-order3 .ensures, asked .command3 .given .1)
+    (with-name (a .setting) (a .image .now) (a .book) _ (made .renamed .result) (made .renamed .ensures))
 
 returns-4 : tie.Need-returns-4
 unfolding command-of
-returns-4 c = rw (c .enum-told .given .1) (repaired (c .before .before .before .before .args .book))
+returns-4 c =
+    let made = c .before in
+    let asked = made .before .before in
+    let a = asked .before .before .before .before .before .args in
+    rw (c .with-order4 .ensures, asked .command4 .given .1)
+    (with-slot (a .setting) (a .image .now) (a .book) _ (made .with-new-slot .result) (made .with-new-slot .ensures))
+
+returns-5 : tie.Need-returns-5
+unfolding command-of
+returns-5 c =
+    let asked = c .before .before in
+    let a = asked .before .before .before .before .before .args in
+    rw (asked .command5 .given .1)
+    (without-slot (a .setting) (a .image .now) (a .book) _ (c .deleted .result) (c .deleted .ensures))
+
+returns-6 : tie.Need-returns-6
+unfolding command-of
+returns-6 c =
+    let a = c .before .before .before .before .before .args in
+    rw (c .enum-told .given .1) (repaired (a .setting) (a .image .now) (a .book))
 
 pub booked-spec : {M : Type 1} → statement M
 booked-spec =
@@ -70,8 +113,15 @@ booked-spec =
     enum-known-command-3
     renamed-requires
     with-order-requires-3
+    enum-known-command-4
+    with-new-slot-requires
+    with-order-requires-4
+    enum-known-command-5
+    deleted-requires
     enum-told
     returns
     returns-2
     returns-3
-    returns-4)
+    returns-4
+    returns-5
+    returns-6)

@@ -22,6 +22,18 @@ enum-known-command-3 c = search needs
 delunkpawi-rename-requires : tie.Need-delunkpawi-rename-requires
 delunkpawi-rename-requires c κs = search needs
 
+enum-known-command-4 : tie.Need-enum-known-command-4
+enum-known-command-4 c = search needs
+
+delunkpawi-create-requires : tie.Need-delunkpawi-create-requires
+delunkpawi-create-requires c κs = search needs
+
+enum-known-command-5 : tie.Need-enum-known-command-5
+enum-known-command-5 c = search needs
+
+delunkpawi-delete-requires : tie.Need-delunkpawi-delete-requires
+delunkpawi-delete-requires c κs = search needs
+
 enum-told : tie.Need-enum-told
 enum-told c = search needs
 
@@ -62,6 +74,24 @@ returns-4 : tie.Need-returns-4
 unfolding command-of
 returns-4 c =
     let began = c .before .before in
+    rw (began .before .before .before .command4 .given .1) (began .delunkpawi-create .ensures)
+
+same-length-5 : tie.Need-same-length-5
+same-length-5 c = search needs
+
+returns-5 : tie.Need-returns-5
+unfolding command-of
+returns-5 c =
+    let began = c .before .before in
+    rw (began .before .before .before .command5 .given .1) (began .delunkpawi-delete .ensures)
+
+same-length-6 : tie.Need-same-length-6
+same-length-6 c = search needs
+
+returns-6 : tie.Need-returns-6
+unfolding command-of
+returns-6 c =
+    let began = c .before .before in
     rw (began .before .before .enum-told .given .1) (began .delunkpawi-repair .ensures)
 
 pub begin-spec : {M : Type 1} → statement M
@@ -74,6 +104,10 @@ begin-spec =
     delunkpawi-disable-requires
     enum-known-command-3
     delunkpawi-rename-requires
+    enum-known-command-4
+    delunkpawi-create-requires
+    enum-known-command-5
+    delunkpawi-delete-requires
     enum-told
     delunkpawi-repair-requires
     same-length
@@ -83,4 +117,8 @@ begin-spec =
     same-length-3
     returns-3
     same-length-4
-    returns-4)
+    returns-4
+    same-length-5
+    returns-5
+    same-length-6
+    returns-6)

@@ -1,5 +1,4 @@
 -- `start_by` starts the command that is asked for: each arm is the definition's. Assumes nothing.
-use mathlib.Core.Path.{_∙_}
 use borrow.Author.Needs.{needs}
 use Rattle.commands.specs.Begins.{command-of}
 use Rattle.commands.proofs.start_by.Statement.{statement}
@@ -23,6 +22,18 @@ enum-known-command-3 c = search needs
 rename-by-requires : tie.Need-rename-by-requires
 rename-by-requires c κs = search needs
 
+enum-known-command-4 : tie.Need-enum-known-command-4
+enum-known-command-4 c = search needs
+
+create-by-requires : tie.Need-create-by-requires
+create-by-requires c κs = search needs
+
+enum-known-command-5 : tie.Need-enum-known-command-5
+enum-known-command-5 c = search needs
+
+delete-by-requires : tie.Need-delete-by-requires
+delete-by-requires c κs = search needs
+
 enum-told : tie.Need-enum-told
 enum-told c = search needs
 
@@ -43,7 +54,15 @@ returns-3 c = rw (c .before .before .command3 .given .1) (c .rename-by .ensures)
 
 returns-4 : tie.Need-returns-4
 unfolding command-of
-returns-4 c = rw (c .before .enum-told .given .1) (c .repair-by .ensures)
+returns-4 c = rw (c .before .before .command4 .given .1) (c .create-by .ensures)
+
+returns-5 : tie.Need-returns-5
+unfolding command-of
+returns-5 c = rw (c .before .before .command5 .given .1) (c .delete-by .ensures)
+
+returns-6 : tie.Need-returns-6
+unfolding command-of
+returns-6 c = rw (c .before .enum-told .given .1) (c .repair-by .ensures)
 
 pub start-by-spec : {M : Type 1} → statement M
 start-by-spec =
@@ -55,9 +74,15 @@ start-by-spec =
     disable-by-requires
     enum-known-command-3
     rename-by-requires
+    enum-known-command-4
+    create-by-requires
+    enum-known-command-5
+    delete-by-requires
     enum-told
     repair-by-requires
     returns
     returns-2
     returns-3
-    returns-4)
+    returns-4
+    returns-5
+    returns-6)

@@ -14,9 +14,11 @@ use Rattle.rules.specs.Book.{Reading, the-commands, Item, Outcome, finis
 use Rattle.rules.proofs.Lists.Tests.{given-inj}
 use Rattle.rules.proofs.Claim.Theorem.{demand-3}
 
-repair-keeps-book : (c : Command) (choice : Bool) (r : Reading) → c ≡ repair → booked the-commands c finished choice r ≡ r
+repair-keeps-book : (s : Setting) (img : List ℕ) (c : Command) (choice : Bool) (r : Reading)
+    → c ≡ repair
+    → booked the-commands s img c finished choice r ≡ r
 unfolding booked changed
-repair-keeps-book c choice r e = rw e
+repair-keeps-book s img c choice r e = rw e
 
 -- the slot with the highest priority of an order
 abbrev pub first-slot : List ℕ → Option ℕ
@@ -40,7 +42,7 @@ module _ (s : Setting) where
   book-after-all img r [] choices = r
   book-after-all img r (i ∷ is) [] = r
   book-after-all img r (i ∷ is) (b ∷ bs) =
-      book-after-all (flash-after s img i) (booked the-commands (i .command) (outcome s img i) b r) is bs
+      book-after-all (flash-after s img i) (booked the-commands s img (i .command) (outcome s img i) b r) is bs
 
   module _ (t first : List ℕ) where
     -- the flash reads as the book, and the book follows it through what comes after
@@ -53,7 +55,7 @@ module _ (s : Setting) where
     ends-as-booked [] js choices img r e f = (e, (choices, f))
     ends-as-booked (i ∷ is) js [] img r e f = absurd f
     ends-as-booked (i ∷ is) js (b ∷ bs) img r e (w, f) =
-        ends-as-booked is js bs (flash-after s img i) (booked the-commands (i .command) (outcome s img i) b r) (w .reads) f
+        ends-as-booked is js bs (flash-after s img i) (booked the-commands s img (i .command) (outcome s img i) b r) (w .reads) f
 
   -- ---- one finished repair
 
@@ -71,8 +73,8 @@ module _ (s : Setting) where
   mended t first img r i (b ∷ bs) is-repair ended e (w, _) = (
     rw ended at (w .agrees),
     w .reads
-        ∙ ap (λ (o : Outcome). given (booked the-commands (i .command) o b r)) ended
-        ∙ ap given (repair-keeps-book (i .command) b r is-repair)
+        ∙ ap (λ (o : Outcome). given (booked the-commands s img (i .command) o b r)) ended
+        ∙ ap given (repair-keeps-book s img (i .command) b r is-repair)
         ∙ sym e,
   )
 

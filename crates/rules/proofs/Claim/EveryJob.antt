@@ -3,15 +3,16 @@ use mathlib.Core.Path.{_≡_, subst}
 use mathlib.Core.List.{List}
 use Prim.Native.Nat.{ℕ}
 use Rattle.rules.specs.Answers.{given, _>>=_}
-use Rattle.rules.specs.Commands.{Command, enable, disable, rename, repair, job, start}
+use Rattle.rules.specs.Commands.{Command, enable, disable, rename, create, delete, repair, job, start}
 use Rattle.rules.specs.Book.{Reading, name-bytes, the-commands}
 use Rattle.rules.specs.declared.Step.{Step}
 use Rattle.rules.specs.declared.View.{View}
 use Rattle.rules.proofs.Claim.Invariant.{Beginning, Invariant, the-view, view-is}
-use Rattle.rules.proofs.Claim.StartedJob.{Started, started-by}
+use Rattle.rules.proofs.Claim.StartedJob.{slots-by-starts, Started, started-by}
 use Rattle.rules.proofs.Claim.JobRight.{JobRight}
 use Rattle.rules.proofs.Pointers.PointerJobs.{enable-right, disable-right}
 use Rattle.rules.proofs.Table.RenameJob.{rename-right}
+use Rattle.rules.proofs.Table.SlotJobs.{create-right, delete-right}
 use Rattle.rules.proofs.Copies.RepairJob.{repair-right}
 use Rattle.rules.proofs.Claim.OneItem.{AllRight}
 
@@ -36,6 +37,12 @@ module _ (beginning : Beginning) (img : List ℕ) (r : Reading) (h : Invariant b
       right (rename k n) bytes (equal, there, may, free, listed) =
           subst (JobRight beginning img r (rename k n)) listed
           (rename-right beginning img r h equal k n there may free bytes)
+      right (create n size) bytes (equal, ok, free, size-right, few, found, listed) =
+          subst (JobRight beginning img r (create n size)) listed
+          (create-right beginning img r h equal n size ok free size-right few found bytes)
+      right (delete k) _ (equal, there, idle, listed) =
+          subst (JobRight beginning img r (delete k)) listed
+          (delete-right beginning img r h equal k there (slots-by-starts (r .table) k there) idle)
       right repair _ listed = subst (JobRight beginning img r repair) listed (repair-right beginning img r h)
 
   pub started : (c : Command) → start s img c ≡ job s img v c

@@ -45,9 +45,9 @@ module _ (C : CommandSet) (all-right : AllRight C) where
 
     item-holds : (img : List ℕ) (r : Reading) (i : Item C) (choice : Bool)
         → ItemRight C all-right b img r i choice
-        → Holds s t first (flash-after s img i) (outcome s img i) (booked C (i .command) (outcome s img i) choice r)
+        → Holds s t first (flash-after s img i) (outcome s img i) (booked C s img (i .command) (outcome s img i) choice r)
     item-holds img r i choice w = record {
-      reads = reading-is b (flash-after s img i) (booked C (i .command) (outcome s img i) choice r) (w .holds);
+      reads = reading-is b (flash-after s img i) (booked C s img (i .command) (outcome s img i) choice r) (w .holds);
       agrees = w .agrees;
       untouched = untouched b t at0 at1 (flash-after s img i) (w .holds .kept);
     }
@@ -61,7 +61,7 @@ module _ (C : CommandSet) (all-right : AllRight C) where
     every-list [] proper img r h = ([], tt)
     every-list (i ∷ is) proper img r h =
         let (choice, w) = one-item C all-right b img r h i (proper .0) in
-        let r′ : Reading = booked C (i .command) (outcome s img i) choice r in
+        let r′ : Reading = booked C s img (i .command) (outcome s img i) choice r in
         let (choices, rest) = every-list is (proper .1) (flash-after s img i) r′ (w .holds) in
         (choice ∷ choices, (item-holds img r i choice w, rest))
 

@@ -29,7 +29,7 @@ module _ (beginning : Beginning) where
 
   -- by a command's change
   abbrev pub JobRight : List ℕ → Reading → Command → List Step → Type 0
-  JobRight img r c ss = Leads img r (changed c r) ss
+  JobRight img r c ss = Leads img r (changed s img c r) ss
 
   module _ (img : List ℕ) (r : Reading) where
     pub job-right : (ss : List Step) (r′ : Reading)

@@ -21,14 +21,14 @@ AllRight C = (beginning : Beginning) (img : List ℕ) (r : Reading)
     → (c : C .Command) (ss : List Step)
     → C .proper c
     → C .start (beginning .s) img c ≡ given ss
-    → Leads beginning img r (C .changed c r) ss
+    → Leads beginning img r (C .changed (beginning .s) img c r) ss
 
 module _ (C : CommandSet) (all-right : AllRight C) (beginning : Beginning) where
   open Beginning beginning using (s)
 
   -- by the book's reading the invariant holds after the item, and a finished item leaves pairs that agree
   pub record ItemRight (img : List ℕ) (r : Reading) (i : Item C) (choice : Bool) : Type 0 where
-    pub holds : Invariant beginning (flash-after s img i) (booked C (i .command) (outcome s img i) choice r)
+    pub holds : Invariant beginning (flash-after s img i) (booked C s img (i .command) (outcome s img i) choice r)
     pub agrees : agree-if-finished s (flash-after s img i) (outcome s img i)
 
   pub one-item : (img : List ℕ) (r : Reading)
@@ -49,7 +49,7 @@ module _ (C : CommandSet) (all-right : AllRight C) (beginning : Beginning) where
 
       when-finished : (ss : List Step)
           → C .start s img (i .command) ≡ given ss
-          → Leads beginning img r (C .changed (i .command) r) ss
+          → Leads beginning img r (C .changed s img (i .command) r) ss
           → how-ended (left ss) ≡ finished
           → (choice : Bool) × ItemRight img r i choice
       when-finished ss e right t =
@@ -58,7 +58,7 @@ module _ (C : CommandSet) (all-right : AllRight C) (beginning : Beginning) where
 
       when-cut : (ss : List Step)
           → C .start s img (i .command) ≡ given ss
-          → Leads beginning img r (C .changed (i .command) r) ss
+          → Leads beginning img r (C .changed s img (i .command) r) ss
           → how-ended (left ss) ≡ cut
           → (choice : Bool) × ItemRight img r i choice
       when-cut ss e right t =
@@ -68,7 +68,7 @@ module _ (C : CommandSet) (all-right : AllRight C) (beginning : Beginning) where
 
       ended : (ss : List Step)
           → C .start s img (i .command) ≡ given ss
-          → Leads beginning img r (C .changed (i .command) r) ss
+          → Leads beginning img r (C .changed s img (i .command) r) ss
           → (l : List Step)
           → left ss ≡ l
           → (choice : Bool) × ItemRight img r i choice
@@ -77,7 +77,7 @@ module _ (C : CommandSet) (all-right : AllRight C) (beginning : Beginning) where
 
       answered : (a : Answer (List Step))
           → C .start s img (i .command) ≡ a
-          → ((ss : List Step) → a ≡ given ss → Leads beginning img r (C .changed (i .command) r) ss)
+          → ((ss : List Step) → a ≡ given ss → Leads beginning img r (C .changed s img (i .command) r) ss)
           → (choice : Bool) × ItemRight img r i choice
       answered (refused why) e right = when-refused why e
       answered (given ss) e right = ended ss e (right ss refl) (left ss) refl

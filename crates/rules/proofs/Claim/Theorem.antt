@@ -1,10 +1,11 @@
 -- Demand 3, in plain words.
 --
--- Take a flash whose two pairs agree, and any list of commands (enable, disable, rename, repair) with any arguments,
--- each run with any budgets. The power may fail in any of them, between two steps or inside an erase; the unfinished
--- job is then lost. Beside the flash a book is kept. It is told each command and whether that was refused, finished or
--- cut, and changes its reading (the table and the boot order) by document 01's rules alone; of a cut command it may
--- choose, once and for good, whether the change was made. Then there are choices with which, after every item:
+-- Take a flash whose two pairs agree, and any list of commands (enable, disable, rename, create, delete, repair) with any
+-- arguments, each run with any budgets. The power may fail in any of them, between two steps or inside an erase; the
+-- unfinished job is then lost. Beside the flash a book is kept. It is told each command and whether that was refused,
+-- finished or cut, and changes its reading (the table and the boot order) by the documents' rules alone; for a create it
+-- also looks at the flash that the command got, from which the rule gives the start of the new slot; of a cut command it
+-- may choose, once and for good, whether the change was made. Then there are choices with which, after every item:
 --   the flash can be read, and reads exactly as the book says;
 --   if the item was finished, both pairs agree;
 --   the image is as long as at the start, and every byte outside the first granules of the two tables and the two

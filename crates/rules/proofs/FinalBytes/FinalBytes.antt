@@ -60,12 +60,12 @@ module _ (s : Setting) (img : List ℕ) (v : View) (c : Command) (ss : List Step
       job-bytes at-start img (read-by img v) holds c ss names starts-there
       ∙ ap (λ (w : View). final s img w c) (sym same-view)
 
-  pub finished-reading : (r : Reading) → reading s img ≡ given r → reading s (final s img v c) ≡ given (changed c r)
+  pub finished-reading : (r : Reading) → reading s img ≡ given r → reading s (final s img v c) ≡ given (changed s img c r)
   finished-reading r e =
       let was : read-by img v ≡ r =
       given-inj (read-by img v) r (sym (reading-is at-start img (read-by img v) holds) ∙ e) in
       rw (← finished-bytes, ← was)
-      (reading-is at-start (steps (s .granule) ss img) (changed c (read-by img v)) (right .at-end))
+      (reading-is at-start (steps (s .granule) ss img) (changed s img c (read-by img v)) (right .at-end))
 
   pub finished-agrees : pairs-agree s (final s img v c) ≡ true
   finished-agrees = rw (← finished-bytes) (right .agrees)

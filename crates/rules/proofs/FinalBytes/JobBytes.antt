@@ -9,10 +9,10 @@ use Rattle.rules.specs.Answers.{given}
 use Rattle.rules.specs.Table.{entries, slots, table-stands}
 use Rattle.rules.specs.Pointers.{pointers-stand}
 use Rattle.rules.specs.Readers.{slot-row}
-use Rattle.rules.specs.Steps.{steps}
-use Rattle.rules.specs.Commands.{Command, enable, disable, rename, repair, put-name, name-free, has-already, rename-steps, repair-pair, repair-steps, job}
+use Rattle.rules.specs.Steps.{steps, rewrite-pair}
+use Rattle.rules.specs.Commands.{Command, enable, disable, rename, create, delete, repair, put-name, name-free, has-already, rename-steps, create-steps, delete-steps, repair-pair, repair-steps, job}
 use Rattle.rules.specs.Book.{Reading, name-bytes}
-use Rattle.rules.specs.Final.{with-new-name, repaired, final}
+use Rattle.rules.specs.Final.{put-pair, with-new-name, repaired, final}
 use Rattle.rules.specs.declared.Step.{Step}
 use Rattle.rules.specs.declared.View.{View}
 use Rattle.rules.proofs.Lists.Tests.{by-cases}
@@ -21,9 +21,11 @@ use Rattle.rules.proofs.Copies.PairCuts.{repair-pair-same}
 use Rattle.rules.proofs.Table.Renaming.{Allowed}
 use Rattle.rules.proofs.Claim.Invariant.{Beginning, granule-holds-block, Invariant, BothEqual, table-pair, pointer-pair, pointers-kept, table-address, pointers-address, which-table, which-pointers, the-view, blocks-inside}
 use Rattle.rules.proofs.Pointers.PointerJobs.{agreed}
+use Rattle.rules.proofs.Table.Replacing.{Replaces}
 use Rattle.rules.proofs.Table.RenameJob.{put-name-replaces}
+use Rattle.rules.proofs.Table.SlotJobs.{created-start-here, new-row-replaces, without-row-replaces}
 use Rattle.rules.proofs.Copies.RepairJob.{tables-mended, tables-mended-changes, tables-mended-holds}
-use Rattle.rules.proofs.Claim.StartedJob.{Started, started-by, table-there, pointers-there}
+use Rattle.rules.proofs.Claim.StartedJob.{slots-by-starts, Started, started-by, table-there, pointers-there}
 use Rattle.rules.proofs.FinalBytes.PutBytes.{rewrite-pair-puts, repair-pair-puts}
 use Rattle.rules.proofs.FinalBytes.PointersPut.{enable-puts, disable-puts}
 
@@ -32,6 +34,16 @@ module _ (b : Beginning) (img : List ℕ) (r : Reading) (h : Invariant b img r) 
 
   abbrev v : View
   v = the-view b img r h
+
+  -- ---- both tables rewritten with another
+
+  tables-put : (t : List ℕ)
+      → Replaces s (length (b .first)) (r .table) t
+      → steps (s .granule) (rewrite-pair (s .spt0) (s .spt1) t) img ≡ put-pair (s .granule) (s .spt0) (s .spt1) t img
+  tables-put t new =
+      let inside = blocks-inside b img r h in
+      rewrite-pair-puts (s .granule) (granule-holds-block (s .granule) refusal2) t (new .whole) (new .bytes)
+      (s .spt0) (s .spt1) img (inside .spt0-inside) (inside .spt1-inside)
 
   -- ---- rename
 
@@ -44,14 +56,11 @@ module _ (b : Beginning) (img : List ℕ) (r : Reading) (h : Invariant b img r) 
       ≡ with-new-name (s .granule) (s .spt0) (s .spt1) (r .table) k n img
   unfolding rename-steps with-new-name
   rename-bytes equal k n there may free bytes =
-      let new = put-name-replaces b img r h equal k n there may free bytes in
-      let inside = blocks-inside b img r h in
       by-cases (has-already (entries (r .table)) k n)
       (λ t. rw t (unfold steps in refl))
       (λ f. rw f
-      (rewrite-pair-puts (s .granule) (granule-holds-block (s .granule) refusal2)
-      (put-name (r .table) (slot-row (entries (r .table)) k) n) (new .whole) (new .bytes)
-      (s .spt0) (s .spt1) img (inside .spt0-inside) (inside .spt1-inside)))
+      (tables-put (put-name (r .table) (slot-row (entries (r .table)) k) n)
+      (put-name-replaces b img r h equal k n there may free bytes)))
 
   -- ---- repair
 
@@ -99,4 +108,14 @@ module _ (b : Beginning) (img : List ℕ) (r : Reading) (h : Invariant b img r) 
           (sym (ap all-done listed) ∙ disable-puts (agreed b img r h equal) k)
       by-command (rename k n) bytes (equal, there, may, free, listed) =
           rw (table-there b img r h) (sym (ap all-done listed) ∙ rename-bytes equal k n there may free bytes)
+      by-command (create n size) bytes (equal, ok, free, right, few, found, listed) =
+          rw (table-there b img r h, created-start-here b img r h size)
+          (sym (ap all-done listed)
+          ∙ unfold create-steps in
+          tables-put _ (new-row-replaces b img r h equal n size ok free right few found bytes))
+      by-command (delete k) _ (equal, there, idle, listed) =
+          rw (table-there b img r h)
+          (sym (ap all-done listed)
+          ∙ unfold delete-steps in
+          tables-put _ (without-row-replaces b img r h equal k there (slots-by-starts (r .table) k there) idle))
       by-command repair _ listed = sym (ap all-done listed) ∙ repair-bytes

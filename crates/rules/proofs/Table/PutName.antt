@@ -41,17 +41,21 @@ name-of-new n e l h =
     one-more : (k : ℕ) → k ≤ 15 → 16 - k ≡ suc (15 - k)
     one-more k l = omega arith
 
-length-padded : (n : List ℕ) → length n ≤ 15 → length (padded-name n) ≡ 16
+pub length-padded : (n : List ℕ) → length n ≤ 15 → length (padded-name n) ≡ 16
 unfolding padded-name
 length-padded n l =
     rw (length-append n (replicate (16 - length n) 0), length-replicate {A = ℕ} (16 - length n) 0) (omega arith)
+
+pub padded-bytes : (n : List ℕ) → Bytes n → Bytes (padded-name n)
+unfolding padded-name
+padded-bytes n h = bytes-append n (replicate (16 - length n) 0) h (bytes-replicate (16 - length n) 0 (omega arith))
 
 -- ---- one entry
 
 abbrev with-field : List ℕ → Entry → Entry
 with-field f e = record { name-field = f; start = e .start; size = e .size; flags = e .flags }
 
-entry-by-front : (x y : List ℕ) → take 32 y ≡ take 32 x → entry y ≡ entry x
+pub entry-by-front : (x y : List ℕ) → take 32 y ≡ take 32 x → entry y ≡ entry x
 unfolding entry
 entry-by-front x y e = λ i. record {
   name-field = (sym (take-take 16 32 y (omega arith)) ∙ ap (take 16) e ∙ take-take 16 32 x (omega arith)) i;
@@ -147,12 +151,10 @@ module _ (t n : List ℕ) (row : ℕ) (whole : length t ≡ block-size) (few : e
       (omega arith)
 
   pub put-bytes : Bytes t → Bytes n → Bytes (put-name t row n)
-  unfolding put-name padded-name
+  unfolding put-name
   put-bytes ht hn =
       bytes-append before (padded-name n ++ after) (bytes-take (0x20 + 32 * row) t ht)
-      (bytes-append (padded-name n) after
-      (bytes-append n (replicate (16 - length n) 0) hn (bytes-replicate (16 - length n) 0 (omega arith)))
-      (bytes-drop (0x20 + 32 * row + 16) t ht))
+      (bytes-append (padded-name n) after (padded-bytes n hn) (bytes-drop (0x20 + 32 * row + 16) t ht))
 
   -- the bytes before the entries
   pub put-front : take 0x20 (put-name t row n) ≡ take 0x20 t

@@ -12,7 +12,8 @@ use Rattle.rules.specs.Readers.{slot-row}
 use Rattle.rules.specs.Commands.{rename, rename-steps, put-name, name-free, has-already}
 use Rattle.rules.specs.Book.{Reading, changed, renamed}
 use Rattle.rules.proofs.Lists.Tests.{by-cases}
-use Rattle.rules.proofs.Table.Renaming.{Allowed, Replaces, renamed-replaces, renamed-starts}
+use Rattle.rules.proofs.Table.Replacing.{Replaces}
+use Rattle.rules.proofs.Table.Renaming.{Allowed, renamed-replaces, renamed-starts}
 use Rattle.rules.proofs.Claim.Invariant.{Beginning, Invariant, BothEqual, table-standing}
 use Rattle.rules.proofs.Claim.JobRight.{JobRight, no-steps-right}
 use Rattle.rules.proofs.Table.TableJobs.{table-whole, table-bytes, tables-right}

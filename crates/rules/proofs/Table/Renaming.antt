@@ -1,6 +1,6 @@
 -- A table with another name in a slot's entry: it stands, and its slots and blocks are where they were. Assumes
 -- nothing.
-use mathlib.Core.Path.{_≡_, refl, sym, ap, _∙_}
+use mathlib.Core.Path.{_≡_, refl, sym, _∙_}
 use mathlib.Core.Bool.{true, false, not, _&&_}
 use mathlib.Core.List.{List, [], _∷_, _++_}
 use Prim.Native.Nat.{ℕ, zero, suc, _≤_, _<_}
@@ -12,13 +12,14 @@ use lib.ListN.{length, getD, set, take, drop}
 use Rattle.rules.specs.Lists.{same, all, any, pairwise, keep}
 use Rattle.rules.specs.Bytes.{Bytes, block-size, multiple}
 use Rattle.rules.specs.declared.Setting.{Setting}
-use Rattle.rules.specs.Table.{Entry, entry-count, entries, name, cpb0-name, cpb1-name, six-names, has-name, is-fixed-name, no-entry, named, cpb0-of, cpb1-of, magic-right, header-right, count-right, name-right, names-differ, range-aligned, range-inside, ranges-apart, six-named, boot-info-at-0, tables-as-told, blocks-on-granules, table-stands, is-slot, slots, slot-starts, starts}
+use Rattle.rules.specs.Table.{Entry, entry-count, entries, name, six-names, has-name, is-fixed-name, no-entry, named, header-right, count-right, name-right, names-differ, range-aligned, range-inside, ranges-apart, six-named, is-slot, slots, slot-starts, starts, magic-right}
 use Rattle.rules.specs.Readers.{slot-row, slot-entry}
 use Rattle.rules.specs.Commands.{put-name, name-allowed, name-free}
 use Rattle.rules.proofs.Lists.Tests.{by-cases, clash, and-true, both-true, same-true, same-of}
 use Rattle.rules.proofs.Lists.Combinators.{all-at, all-weaker, all-from-two, all-of-none, all-after-set, all-with-like, any-with-like, pairwise-with-like, pairwise-with-new, first-with-like}
 use Rattle.rules.proofs.Lists.ByteLists.{field-by-front}
-use Rattle.rules.proofs.Table.Standing.{Standing, stands, at-most-127, length-entries}
+use Rattle.rules.proofs.Table.Standing.{Standing, at-most-127, length-entries}
+use Rattle.rules.proofs.Table.Replacing.{Replaces, Keeps, replaces}
 use Rattle.rules.proofs.Table.PutName.{no-zero, with-name, name-of-new, put-length, put-bytes, put-front, put-count, put-entries}
 
 -- ---- the row of a slot
@@ -59,11 +60,11 @@ allowed n h =
     }
 
 -- an entry whose name is none of the six
-no-fixed-name : (e : Entry) → is-fixed-name (name e) ≡ false → all (λ m. not (has-name m e)) six-names ≡ true
+pub no-fixed-name : (e : Entry) → is-fixed-name (name e) ≡ false → all (λ m. not (has-name m e)) six-names ≡ true
 unfolding is-fixed-name has-name
 no-fixed-name e h = all-of-none (same (name e)) six-names h
 
-slot-has-no-fixed-name : (e : Entry) → is-slot e ≡ true → is-fixed-name (name e) ≡ false
+pub slot-has-no-fixed-name : (e : Entry) → is-slot e ≡ true → is-fixed-name (name e) ≡ false
 unfolding is-slot
 slot-has-no-fixed-name e h = not-true (is-fixed-name (name e)) (and-true (multiple 4 (e .flags)) _ h .1)
 
@@ -73,14 +74,14 @@ module _ (n : List ℕ) (ok : Allowed n) (e : Entry) where
   abbrev new : Entry
   new = with-name n e
 
-  new-name : name new ≡ n
+  pub new-name : name new ≡ n
   new-name = name-of-new n e (ok .short) (ok .without-zero)
 
-  new-name-right : name-right new ≡ true
+  pub new-name-right : name-right new ≡ true
   unfolding name-right
   new-name-right = rw (new-name, lt-ltb 0 (length n) (ok .some-bytes)) (lt-ltb (length n) 16 (omega (arith, ok .short)))
 
-  new-is-slot : is-slot e ≡ true → is-slot new ≡ true
+  pub new-is-slot : is-slot e ≡ true → is-slot new ≡ true
   unfolding is-slot
   new-is-slot h = let (four, _) = and-true (multiple 4 (e .flags)) _ h in rw (four, new-name, ok .not-fixed)
 
@@ -88,7 +89,7 @@ module _ (n : List ℕ) (ok : Allowed n) (e : Entry) where
   same-swapped x y h =
       by-cases (same y x) (λ t. absurd (clash (same x y) (same-of x y (sym (same-true y x t))) h)) (λ f. f)
 
-  differs-both-ways : (x : Entry) → not (has-name n x) ≡ true → names-differ x new && names-differ new x ≡ true
+  pub differs-both-ways : (x : Entry) → not (has-name n x) ≡ true → names-differ x new && names-differ new x ≡ true
   unfolding has-name names-differ
   differs-both-ways x h =
       let f = not-true (same (name x) n) h in
@@ -109,14 +110,6 @@ slot-starts-kept y (e ∷ es) (suc row) h k s l =
     (λ t. rw (t, slot-starts-kept y es row h k s (le-of-suc-le-suc l)))
 
 -- ---- the table
-
--- what stays of a table, for an image of this length, in another that stands too
-pub record Replaces (s : Setting) (len : ℕ) (t b : List ℕ) : Type 0 where
-  pub whole : length b ≡ block-size
-  pub bytes : Bytes b
-  pub stands : table-stands s len b ≡ true
-  pub cpb0-kept : cpb0-of b ≡ cpb0-of t
-  pub cpb1-kept : cpb1-of b ≡ cpb1-of t
 
 module _ (s : Setting) (len : ℕ) (t n : List ℕ) (k : ℕ) (whole : length t ≡ block-size) (st : Standing s len t)
     (there : k < length (slots (entries t))) (ok : Allowed n)
@@ -195,42 +188,23 @@ module _ (s : Setting) (len : ℕ) (t n : List ℕ) (k : ℕ) (whole : length t 
   unfolding count-right
   count-kept = rw (put-count t n row whole (at-most-127 t (st .rule2)) counted (ok .short))
 
-  still-stands : Standing s len b
-  unfolding range-aligned range-inside ranges-apart boot-info-at-0 tables-as-told blocks-on-granules all six-names
-  still-stands = record {
-    rule1 = header-kept ∙ st .rule1;
-    rule2 = count-kept ∙ st .rule2;
-    rule3 = rw entries-after (all-after-set name-right e′ es row (st .rule3) (new-name-right n ok old));
-    rule4 = rw entries-after names-still-differ;
-    rule5 = rw entries-after (all-with-like no-entry e′ range-aligned es row refl ∙ st .rule5);
-    rule6 = rw entries-after (all-with-like no-entry e′ (range-inside len) es row refl ∙ st .rule6);
-    rule7 = rw entries-after (pairwise-with-like no-entry e′ ranges-apart es row (λ x. refl) (λ x. refl) ∙ st .rule7);
-    rule8 = rw entries-after six-still-named;
-    rule9 = rw (entries-after, named-kept 0 (omega arith)) (st .rule9);
-    rule10 = rw (entries-after, named-kept 2 (omega arith), named-kept 3 (omega arith)) (st .rule10);
-    rule11 =
-        rw (
-          entries-after,
-          named-kept 2 (omega arith),
-          named-kept 3 (omega arith),
-          named-kept 4 (omega arith),
-          named-kept 5 (omega arith),
-        )
-        (st .rule11);
+  entries-keep : Keeps len es (set es row e′)
+  unfolding range-aligned range-inside ranges-apart
+  entries-keep = record {
+    rule3 = all-after-set name-right e′ es row (st .rule3) (new-name-right n ok old);
+    rule4 = names-still-differ;
+    rule5 = all-with-like no-entry e′ range-aligned es row refl ∙ st .rule5;
+    rule6 = all-with-like no-entry e′ (range-inside len) es row refl ∙ st .rule6;
+    rule7 = pairwise-with-like no-entry e′ ranges-apart es row (λ x. refl) (λ x. refl) ∙ st .rule7;
+    rule8 = six-still-named;
+    named-kept = named-kept;
   }
-
-  same-start : (m : List ℕ) → named m (set es row e′) ≡ named m es → named m (entries b) .start ≡ named m es .start
-  same-start m e = ap (λ (x : List Entry). named m x .start) entries-after ∙ ap (λ (x : Entry). x .start) e
 
   pub renamed-replaces : Bytes t → Bytes n → Replaces s len t (put-name t (slot-row (entries t) k) n)
-  unfolding cpb0-of cpb1-of six-names
-  renamed-replaces ht hn = record {
-    whole = put-length t n row whole (at-most-127 t (st .rule2)) counted (ok .short);
-    bytes = put-bytes t n row whole (at-most-127 t (st .rule2)) counted (ok .short) ht hn;
-    stands = stands s len b still-stands;
-    cpb0-kept = same-start cpb0-name (named-kept 4 (omega arith));
-    cpb1-kept = same-start cpb1-name (named-kept 5 (omega arith));
-  }
+  renamed-replaces ht hn =
+      replaces s len t b (set es row e′) st entries-after header-kept (count-kept ∙ st .rule2) entries-keep
+      (put-length t n row whole (at-most-127 t (st .rule2)) counted (ok .short))
+      (put-bytes t n row whole (at-most-127 t (st .rule2)) counted (ok .short) ht hn)
 
   -- the slots start where they did
   pub renamed-starts : starts (put-name t (slot-row (entries t) k) n) ≡ starts t

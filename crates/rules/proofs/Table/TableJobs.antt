@@ -17,7 +17,7 @@ use Rattle.rules.proofs.Steps.Cutting.{Cut, cut-all}
 use Rattle.rules.proofs.Copies.CopyRead.{equal-read, first-read}
 use Rattle.rules.proofs.Steps.Frame.{StepsWithin, within-wider, length-block, bytes-block}
 use Rattle.rules.proofs.Copies.PairCuts.{Changes, Reads, rewrite-pair-within, rewrite-pair-cut, rewrite-pair-done}
-use Rattle.rules.proofs.Table.Renaming.{Replaces}
+use Rattle.rules.proofs.Table.Replacing.{Replaces}
 use Rattle.rules.proofs.Claim.Invariant.{Beginning, granule-holds-block, TableGranules, FourGranules, Invariant, BothEqual, table-pair, pointers-kept, blocks-inside, with-new-tables}
 use Rattle.rules.proofs.Claim.JobRight.{Leads, job-right}
 

@@ -2,7 +2,7 @@
 use Rattle.script.specs.Text.{ascii}
 use Rattle.script.specs.Lines.{by-forms, command-forms}
 use Rattle.script.specs.declared.Line.the-variants.{Command}
-use Rattle.script.specs.declared.Command.the-variants.{Enable, Disable, Rename, RenameToNothing}
+use Rattle.script.specs.declared.Command.the-variants.{Enable, Disable, Rename, RenameToNothing, Create, CreateUnnamed, Delete}
 use Rattle.script.proofs.Forms.{slot-kept}
 use borrow.Author.Needs.{needs}
 use Rattle.script.proofs.lines.command_line.Statement.{statement}
@@ -50,19 +50,49 @@ takes-slot-requires-4 c κs = search needs
 form-requires-4 : tie.Need-form-requires-4
 form-requires-4 c κs = search needs
 
+slice-aggregate-takes-slot-5 : tie.Need-slice-aggregate-takes-slot-5
+slice-aggregate-takes-slot-5 c = search needs
+
+takes-slot-requires-5 : tie.Need-takes-slot-requires-5
+takes-slot-requires-5 c κs = search needs
+
+form-requires-5 : tie.Need-form-requires-5
+form-requires-5 c κs = search needs
+
+slice-aggregate-takes-slot-6 : tie.Need-slice-aggregate-takes-slot-6
+slice-aggregate-takes-slot-6 c = search needs
+
+takes-slot-requires-6 : tie.Need-takes-slot-requires-6
+takes-slot-requires-6 c κs = search needs
+
+form-requires-6 : tie.Need-form-requires-6
+form-requires-6 c κs = search needs
+
+slice-aggregate-takes-slot-7 : tie.Need-slice-aggregate-takes-slot-7
+slice-aggregate-takes-slot-7 c = search needs
+
+takes-slot-requires-7 : tie.Need-takes-slot-requires-7
+takes-slot-requires-7 c κs = search needs
+
+form-requires-7 : tie.Need-form-requires-7
+form-requires-7 c κs = search needs
+
 slice-aggregate-takes : tie.Need-slice-aggregate-takes
 slice-aggregate-takes c = search needs
 
 takes-requires : tie.Need-takes-requires
 takes-requires c κs = search needs
 
-form-requires-5 : tie.Need-form-requires-5
-form-requires-5 c κs = search needs
+form-requires-8 : tie.Need-form-requires-8
+form-requires-8 c κs = search needs
 
 returns : tie.Need-returns
 unfolding by-forms command-forms
 returns c =
-    let c4 = c .before .before .before in
+    let c7 = c .before .before .before in
+    let c6 = c7 .before .before .before in
+    let c5 = c6 .before .before .before in
+    let c4 = c5 .before .before .before in
     let c3 = c4 .before .before .before in
     let c2 = c3 .before .before .before in
     let c1 = c2 .before .before .before in
@@ -71,8 +101,17 @@ returns c =
     let a = slot .before .before .args in
     let kept = slot-kept (a .verb .now) in
     rw (
-      c .form5 .ensures,
+      c .form8 .ensures,
       c .before .takes .ensures,
+      c7 .form7 .ensures,
+      c7 .before .takes-slot7 .ensures,
+      kept (ascii "delete") (a .row) (slot .slot-of .result) (λ s. Command (Delete s)) (c6 .form6 .result) (slot .slot-of .ensures),
+      c6 .form6 .ensures,
+      c6 .before .takes-slot6 .ensures,
+      kept (ascii "create") (a .row) (slot .slot-of .result) (λ s. Command (CreateUnnamed (s .0))) (c5 .form5 .result) (slot .slot-of .ensures),
+      c5 .form5 .ensures,
+      c5 .before .takes-slot5 .ensures,
+      kept (ascii "create") (a .hexed) (named .slot-of2 .result) (λ s. Command (Create (s .0))) (c4 .form4 .result) (named .slot-of2 .ensures),
       c4 .form4 .ensures,
       c4 .before .takes-slot4 .ensures,
       kept (ascii "rename") (a .row) (slot .slot-of .result) (λ s. Command (RenameToNothing s)) (c3 .form3 .result) (slot .slot-of .ensures),
@@ -105,7 +144,16 @@ command-line-spec =
     slice-aggregate-takes-slot-4
     takes-slot-requires-4
     form-requires-4
+    slice-aggregate-takes-slot-5
+    takes-slot-requires-5
+    form-requires-5
+    slice-aggregate-takes-slot-6
+    takes-slot-requires-6
+    form-requires-6
+    slice-aggregate-takes-slot-7
+    takes-slot-requires-7
+    form-requires-7
     slice-aggregate-takes
     takes-requires
-    form-requires-5
+    form-requires-8
     returns)

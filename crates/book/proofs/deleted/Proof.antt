@@ -1,0 +1,47 @@
+-- `deleted` is the book without a slot, where its table has the slot. Assumes nothing.
+use mathlib.Core.Path.{sym}
+use borrow.Author.Needs.{needs}
+use Rattle.walks.proofs.Joined.{failed, passed}
+use Rattle.book.specs.Kept.{reading-of, has-slot, deleted}
+use Rattle.book.proofs.deleted.Statement.{statement}
+use Rattle.book.proofs.deleted.Tie as tie
+
+has-slot-requires : tie.Need-has-slot-requires
+has-slot-requires c κs = search needs
+
+returns : tie.Need-returns
+unfolding deleted reading-of
+returns c = sym (rw (failed (c .before .has-slot .ensures) (c .if1 .taken)))
+
+without-slot-requires : tie.Need-without-slot-requires
+without-slot-requires c κs = passed (c .before .has-slot .ensures) (c .if1 .left)
+
+after-delete-requires : tie.Need-after-delete-requires
+after-delete-requires c κs = search needs
+
+with-order-requires : tie.Need-with-order-requires
+with-order-requires c κs = search needs
+
+returns-2 : tie.Need-returns-2
+unfolding deleted reading-of
+returns-2 c =
+    let at-order = c .before in
+    let at-table = at-order .before in
+    let at-if = at-table .before in
+    rw (
+      c .with-order .ensures,
+      passed (at-if .before .has-slot .ensures) (at-if .if1 .left),
+      at-order .after-delete .ensures,
+      at-table .without-slot .ensures,
+    )
+
+pub deleted-spec : {M : Type 1} → statement M
+deleted-spec =
+    tie.close
+    (tie.spec
+    has-slot-requires
+    returns
+    without-slot-requires
+    after-delete-requires
+    with-order-requires
+    returns-2)

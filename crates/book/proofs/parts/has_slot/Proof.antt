@@ -1,0 +1,52 @@
+-- `has_slot` says whether a table has such a slot. Assumes nothing.
+use mathlib.Core.Path.{sym}
+use native.Mathlib.Omega.{arith}
+use borrow.Author.Tests.{le-leb, lt-leb}
+use Rattle.rules.specs.Table.{entry-count, entries}
+use Rattle.rules.specs.Readers.{slot-there}
+use Rattle.walks.specs.Entries.{most-entries}
+use Rattle.book.specs.Kept.{has-slot}
+use borrow.Author.Needs.{needs}
+use Rattle.book.proofs.parts.has_slot.Statement.{statement}
+use Rattle.book.proofs.parts.has_slot.Tie as tie
+
+slice-aggregate-entry-count : tie.Need-slice-aggregate-entry-count
+slice-aggregate-entry-count c = search needs
+
+entry-count-requires : tie.Need-entry-count-requires
+entry-count-requires c κs = search needs
+
+returns : tie.Need-returns
+unfolding has-slot
+returns c =
+    let t = c .before .before .before .args .t1 in
+    sym (rw (lt-leb (entry-count t) most-entries (omega (arith, c .before .entry-count .ensures))))
+
+cast-result : tie.Need-cast-result
+cast-result c = search needs
+
+slice-aggregate-count-slots : tie.Need-slice-aggregate-count-slots
+slice-aggregate-count-slots c = search needs
+
+count-slots-requires : tie.Need-count-slots-requires
+count-slots-requires c κs = search needs
+
+returns-2 : tie.Need-returns-2
+unfolding has-slot slot-there entries
+returns-2 c =
+    let at = c .before .before .before .before in
+    let t = at .before .before .args .t1 in
+    rw (c .count-slots .ensures .0)
+    (sym (rw (le-leb (entry-count t) most-entries (omega (arith, at .entry-count .ensures)), ← at .entry-count .ensures)))
+
+pub has-slot-spec : {M : Type 1} → statement M
+has-slot-spec =
+    tie.close
+    (tie.spec
+    slice-aggregate-entry-count
+    entry-count-requires
+    returns
+    cast-result
+    slice-aggregate-count-slots
+    count-slots-requires
+    returns-2)

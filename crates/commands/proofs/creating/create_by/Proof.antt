@@ -1,0 +1,195 @@
+-- `create_by` refuses or starts create as its definition says. Assumes nothing.
+use native.Mathlib.Omega.{arith}
+use Rattle.rules.specs.Answers.{numbered}
+use Rattle.rules.specs.Commands.{create}
+use Rattle.rules.proofs.Table.Renaming.{allowed}
+use Rattle.reading.specs.Inner.Located.{Located}
+use Rattle.reading.proofs.Opening.{located, has-entries, has-pointers}
+use Rattle.commands.proofs.Asking.{returns-refused}
+use Rattle.commands.proofs.NewAsked.{placed, create-refused, create-refused-42, create-started, name-passed, size-passed, row-left}
+use borrow.Author.Needs.{needs}
+use Rattle.commands.proofs.creating.create_by.Statement.{statement}
+use Rattle.commands.proofs.creating.create_by.Tie as tie
+
+-- what the view says of where the blocks are
+where-blocks-are : (s : tie.Start) → Located (s .args .image .now) (s .args .v)
+where-blocks-are s =
+    located (s .args .setting) (s .args .image .now) (s .args .v)
+    (s .pre)
+
+ask-new-requires : tie.Need-ask-new-requires
+ask-new-requires c κs =
+    let s = c .before .before in
+    where-blocks-are s
+
+enum-known-asked : tie.Need-enum-known-asked
+enum-known-asked c = search needs
+
+refuse-requires : tie.Need-refuse-requires
+refuse-requires c κs = search needs
+
+enum-told : tie.Need-enum-told
+enum-told c = search needs
+
+block-at-requires : tie.Need-block-at-requires
+block-at-requires c κs =
+    let s = c .before .before .before .before .before in
+    where-blocks-are s .table-inside
+
+block-at-requires-2 : tie.Need-block-at-requires-2
+block-at-requires-2 c κs =
+    let s = c .before .before .before .before .before .before in
+    where-blocks-are s .pointers-inside
+
+entry-count-requires : tie.Need-entry-count-requires
+entry-count-requires c κs = search needs
+
+places-of-requires : tie.Need-places-of-requires
+places-of-requires c κs =
+    let at-block2 = c .before in
+    let s = at-block2 .before .before .before .before .before .before .before in
+    has-pointers (where-blocks-are s) (at-block2 .block-at2 .result .now) (at-block2 .block-at2 .ensures)
+
+lowest-start-requires : tie.Need-lowest-start-requires
+lowest-start-requires c κs =
+    let at-count = c .before in
+    let at-block2 = at-count .before in
+    let at-block = at-block2 .before in
+    let at-told = at-block .before in
+    let at-ask = at-told .before .before in
+    let s = at-ask .before .before .before in
+    let a = s .args in
+    let img = a .image .now in
+    let t = at-block .block-at .result .now in
+    let n = at-count .entry-count .result in (
+      (
+        (
+          has-entries (where-blocks-are s) t n (at-block .block-at .ensures) (at-count .entry-count .ensures),
+          placed (a .setting) img (a .v) t n (s .pre) (at-block .block-at .ensures .0) (at-count .entry-count .ensures),
+        ),
+        record {
+          block = has-pointers (where-blocks-are s) (at-block2 .block-at2 .result .now) (at-block2 .block-at2 .ensures);
+          places = c .places-of .ensures;
+        },
+      ),
+      (
+        size-passed (a .setting) img (a .v) (s .pre) (a .name .now) (a .size) (at-ask .ask-new .result)
+            (at-ask .ask-new .ensures) (at-told .enum-told .given .1),
+        omega arith,
+      ),
+    )
+
+refuse-requires-2 : tie.Need-refuse-requires-2
+refuse-requires-2 c κs = search needs
+
+returns : tie.Need-returns
+returns c =
+    let at-if = c .before in
+    let at-start = at-if .before in
+    let at-count = at-start .before .before in
+    let at-block2 = at-count .before in
+    let at-block = at-block2 .before in
+    let at-told = at-block .before in
+    let at-ask = at-told .before .before in
+    let s = at-ask .before .before .before in
+    let a = s .args in
+    let img = a .image .now in
+    returns-refused (a .setting) img (a .v) (create (a .name .now) (a .size)) (c .refuse2 .result) (numbered 42)
+    (c .refuse2 .ensures)
+    (create-refused-42 (a .setting) img (a .v) (s .pre) (a .name .now) (a .size) (at-ask .ask-new .result)
+    (at-ask .ask-new .ensures) (at-told .enum-told .given .1) (at-block .block-at .result .now)
+    (at-block2 .block-at2 .result .now) (at-count .entry-count .result) (at-start .lowest-start .result)
+    (at-block .block-at .ensures .0) (at-block2 .block-at2 .ensures .0) (at-count .entry-count .ensures)
+    (at-start .lowest-start .ensures) (omega arith))
+
+cast-at0 : tie.Need-cast-at0
+cast-at0 c =
+    let s = c .before .before .before .before .before .before .before .before .before .before .before .before in
+    let l = where-blocks-are s in omega (arith, l .spt0-inside, l .short)
+
+cast-at1 : tie.Need-cast-at1
+cast-at1 c =
+    let s = c .before .before .before .before .before .before .before .before .before .before .before .before .before in
+    let l = where-blocks-are s in omega (arith, l .spt1-inside, l .short)
+
+with-new-row-requires : tie.Need-with-new-row-requires
+with-new-row-requires c κs =
+    let at-count = c .before .before .before .before .before in
+    let at-block = at-count .before .before in
+    let at-told = at-block .before in
+    let at-ask = at-told .before .before in
+    let s = at-ask .before .before .before in
+    let a = s .args in
+    let img = a .image .now in
+    let left = row-left (a .setting) img (a .v) (s .pre) (a .name .now) (a .size) (at-ask .ask-new .result)
+    (at-ask .ask-new .ensures) (at-told .enum-told .given .1) in
+    let named = name-passed (a .setting) img (a .v) (s .pre) (a .name .now) (a .size) (at-ask .ask-new .result)
+    (at-ask .ask-new .ensures) (at-told .enum-told .given .1) in
+    let counted = at-count .entry-count .ensures in (
+      (
+        at-block .block-at .ensures .1,
+        (counted, rw (counted, at-block .block-at .ensures .0) left),
+      ),
+      (omega (arith, allowed (a .name .now) named .short), omega arith),
+    )
+
+pair-rewritten-requires : tie.Need-pair-rewritten-requires
+pair-rewritten-requires c κs = search needs
+
+begun-requires : tie.Need-begun-requires
+begun-requires c κs = search needs
+
+returns-2 : tie.Need-returns-2
+returns-2 c =
+    let at-asked = c .before .before in
+    let at-ask = at-asked .before .before in
+    let s = at-ask .before .before .before in
+    let a = s .args in
+    returns-refused (a .setting) (a .image .now) (a .v) (create (a .name .now) (a .size)) (c .refuse .result)
+    (at-asked .asked .given .0 .0) (c .refuse .ensures)
+    (create-refused (a .setting) (a .image .now) (a .v) (s .pre) (a .name .now) (a .size) (at-ask .ask-new .result)
+    (at-ask .ask-new .ensures) (at-asked .asked .given .0 .0) (at-asked .asked .given .1))
+
+returns-3 : tie.Need-returns-3
+returns-3 c =
+    let at-pair = c .before in
+    let at-row = at-pair .before in
+    let at-if = at-row .before .before .before in
+    let at-start = at-if .before in
+    let at-count = at-start .before .before in
+    let at-block2 = at-count .before in
+    let at-block = at-block2 .before in
+    let at-told = at-block .before in
+    let at-ask = at-told .before .before in
+    let s = at-ask .before .before .before in
+    let a = s .args in
+    let img = a .image .now in
+    create-started (a .setting) img (a .v) (s .pre) (a .name .now) (a .size) (at-ask .ask-new .result)
+    (at-ask .ask-new .ensures) (at-told .enum-told .given .1) (at-block .block-at .result .now)
+    (at-block2 .block-at2 .result .now) (at-count .entry-count .result) (at-start .lowest-start .result)
+    (at-block .block-at .ensures .0) (at-block2 .block-at2 .ensures .0) (at-count .entry-count .ensures)
+    (at-start .lowest-start .ensures) (omega arith) (c .begun .result) (at-pair .pair-rewritten .result)
+    (at-row .with-new-row .result) (c .begun .ensures) (at-pair .pair-rewritten .ensures) (at-row .with-new-row .ensures)
+
+pub create-by-spec : {M : Type 1} → statement M
+create-by-spec =
+    tie.close
+    (tie.spec
+    ask-new-requires
+    enum-known-asked
+    refuse-requires
+    enum-told
+    block-at-requires
+    block-at-requires-2
+    entry-count-requires
+    places-of-requires
+    lowest-start-requires
+    refuse-requires-2
+    returns
+    cast-at0
+    cast-at1
+    with-new-row-requires
+    pair-rewritten-requires
+    begun-requires
+    returns-2
+    returns-3)

@@ -1,0 +1,118 @@
+// Create, once the view of the flash is known.
+use super::Begun;
+use super::Outcome;
+use super::refusals;
+use blocks::Target;
+use blocks::made;
+use blocks::tables;
+use rooms::rows;
+use rooms::starts;
+use rules::EntryNo;
+use rules::NO_FAULT;
+use rules::Refusal;
+use rules::Setting;
+use rules::View;
+ghost use mathlib.Core.Path.{_≡_};
+ghost use mathlib.Core.Bool.{_&&_, not};
+ghost use lib.Dec.{eqb};
+ghost use Rattle.rules.specs.Answers.{given};
+ghost use Rattle.rules.specs.Copies.{view};
+ghost use Rattle.rules.specs.Commands.{create, size-right};
+ghost use Rattle.reading.specs.Inner.Located.{Located};
+ghost use Rattle.commands.specs.Begins.{returned, job-by};
+ghost use Rattle.commands.specs.Inner.Asked.{outcome, new-asked};
+
+// The length of a new slot is a multiple of 4,096 and not 0.
+fn size_right(size: u64) -> bool
+    ensures { λ r. ⌜ r ≡ size-right size ⌝ }
+{
+    (size != 0) & (size % 4096 == 0)
+}
+
+// Refusals 6, 9, 10, 40 and 41: both pairs agree, the name may be given and no entry has it, the length is right, and a
+// row is left.
+fn ask_new(image: &[u8], v: View, name: &[u8], size: u64) -> Outcome
+    requires { ⌜ Located (now image) v ⌝ }
+    ensures { λ r. ⌜ outcome r ≡ new-asked (now (image .entry)) v (now (name .entry)) size ⌝ }
+{
+    if !(copies::same_blocks(image, v.spt0, v.spt1) & copies::same_blocks(image, v.cpb0, v.cpb1)) {
+        return Outcome::Refused(Refusal {
+            number: 6,
+            fault0: NO_FAULT,
+            fault1: NO_FAULT,
+        });
+    }
+    if !tables::name_allowed(name) {
+        return Outcome::Refused(Refusal {
+            number: 9,
+            fault0: NO_FAULT,
+            fault1: NO_FAULT,
+        });
+    }
+    let at = v.table;
+    let t = fields::block_at(image, at);
+    let n = entries::entry_count(t);
+    if !tables::name_free(t, n, EntryNo(n), name) {
+        return Outcome::Refused(Refusal {
+            number: 10,
+            fault0: NO_FAULT,
+            fault1: NO_FAULT,
+        });
+    }
+    if !size_right(size) {
+        return Outcome::Refused(Refusal {
+            number: 40,
+            fault0: NO_FAULT,
+            fault1: NO_FAULT,
+        });
+    }
+    if entries::MOST_ENTRIES <= n {
+        return Outcome::Refused(Refusal {
+            number: 41,
+            fault0: NO_FAULT,
+            fault1: NO_FAULT,
+        });
+    }
+    Outcome::Started
+}
+
+// These, then 42, or the job of create: the lowest start, and the table with the new row.
+pub fn create_by(image: &[u8], setting: Setting, v: View, name: &[u8], size: u32) -> Begun
+    requires { ⌜ view setting (now image) ≡ given v ⌝ }
+    ensures { λ r. ⌜
+        r ≡ returned (job-by setting (now (image .entry)) v (create (now (name .entry)) size))
+        ⌝ }
+{
+    let long = size as u64;
+    let asked = ask_new(image, v, name, long);
+    match asked {
+        Outcome::Refused(why) => refusals::refuse(why),
+        Outcome::Started => {
+            let table_at = v.table;
+            let pointers_at = v.pointers;
+            let t = fields::block_at(image, table_at);
+            let p = fields::block_at(image, pointers_at);
+            let n = entries::entry_count(t);
+            let places = places::places_of(p);
+            let len = image.len() as u64;
+            let start = starts::lowest_start(t, n, p, places, len, long);
+            if len <= start {
+                return refusals::refuse(Refusal {
+                    number: 42,
+                    fault0: NO_FAULT,
+                    fault1: NO_FAULT,
+                });
+            }
+            let at0 = v.spt0 as u32;
+            let at1 = v.spt1 as u32;
+            let to = Target {
+                len: image.len(),
+                granule: setting.granule,
+                at0: at0,
+                at1: at1,
+            };
+            let table = rows::with_new_row(t, n, name, start, long);
+            refusals::begun(made::pair_rewritten(to, table))
+        }
+    }
+}

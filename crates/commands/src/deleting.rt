@@ -1,0 +1,61 @@
+// Delete, once the view of the flash is known.
+use super::Begun;
+use super::Outcome;
+use super::refusals;
+use blocks::Target;
+use blocks::made;
+use blocks::pointers;
+use blocks::tables;
+use rooms::rows;
+use rules::NO_FAULT;
+use rules::Refusal;
+use rules::Setting;
+use rules::SlotNo;
+use rules::View;
+ghost use mathlib.Core.Path.{_≡_};
+ghost use Rattle.rules.specs.Answers.{given};
+ghost use Rattle.rules.specs.Copies.{view};
+ghost use Rattle.rules.specs.Commands.{delete};
+ghost use Rattle.commands.specs.Begins.{returned, job-by};
+
+// Refusals 6, 7 and 43, or the job of delete: a slot that a place gives is in the boot order.
+pub fn delete_by(image: &[u8], setting: Setting, v: View, slot: SlotNo) -> Begun
+    requires { ⌜ view setting (now image) ≡ given v ⌝ }
+    ensures { λ r. ⌜
+        r ≡ returned (job-by setting (now (image .entry)) v (delete (slot .0)))
+        ⌝ }
+{
+    let asked = refusals::ask_slot(image, v, slot);
+    match asked {
+        Outcome::Refused(why) => refusals::refuse(why),
+        Outcome::Started => {
+            let table_at = v.table;
+            let pointers_at = v.pointers;
+            let t = fields::block_at(image, table_at);
+            let p = fields::block_at(image, pointers_at);
+            let listed = slots::rows_of(t);
+            let places = places::places_of(p);
+            let start = tables::slot_start(t, listed, slot);
+            let found = pointers::giving(t, listed, p, places, slot, start);
+            if 0 < found.count {
+                return refusals::refuse(Refusal {
+                    number: 43,
+                    fault0: NO_FAULT,
+                    fault1: NO_FAULT,
+                });
+            }
+            let n = entries::entry_count(t);
+            let row = slots::slot_row(t, n, slot);
+            let at0 = v.spt0 as u32;
+            let at1 = v.spt1 as u32;
+            let to = Target {
+                len: image.len(),
+                granule: setting.granule,
+                at0: at0,
+                at1: at1,
+            };
+            let table = rows::without_row(t, n, row);
+            refusals::begun(made::pair_rewritten(to, table))
+        }
+    }
+}
