@@ -233,8 +233,8 @@ enum spoilt { LENGTH, GRANULE_OTHER, SAME_ADDRESS, HEADERS, LAST_NAME, LAST_RANG
               SECOND_COPIES, EXACT_ROW, SPOILT };
 static const struct { const char *name; int refusal; } spoilt_names[] = {
     {"length not a multiple of 4,096", 1}, {"granule of 5,000", 2},        {"SPT1 where SPT0 is", 3},
-    {"no table has its magic", 4},         {"last name is the first", 4},  {"last range overlaps the first", 4},
-    {"no entry CPB1", 4},                  {"no pointer block stands", 5}, {"row one too short", 13},
+    {"no table has its magic", 50},        {"last name is the first", 51}, {"last range overlaps the first", 51},
+    {"no entry CPB1", 51},                 {"no pointer block stands", 5}, {"row one too short", 13},
     {"second copies read", 0},             {"row just long enough", 0}};
 
 static void spoil_tables(size_t offset, const char *bytes, size_t length) {
@@ -258,7 +258,7 @@ static void spoil(enum spoilt spoilt, int slots) {
     if (spoilt == LAST_NAME) spoil_tables(last, (const char *)image + SPT0 + 0x20, 16);
     if (spoilt == LAST_RANGE) spoil_tables(last + 16, (const char *)image + SPT0 + 0x20 + 16, 12);
     if (spoilt == NO_CPB1) spoil_tables(entry_of("CPB1"), "CPB2", 4);
-    if (spoilt == POINTER_BLOCKS || spoilt == SECOND_COPIES) put(CPB0 + 0x14, PLACES - 1, 4);
+    if (spoilt == POINTER_BLOCKS || spoilt == SECOND_COPIES) put(CPB0 + 0x14, 0, 4);
     if (spoilt == POINTER_BLOCKS) put(CPB1, 0, 4);
     if (spoilt == SECOND_COPIES) put(SPT0 + 4, 1, 4);
     if (spoilt == SHORT_ROW) given.row_length = expected_count - 1;

@@ -6,7 +6,8 @@
 -- an erase; the unfinished job is then lost. Nothing is known of these calls but what the contracts of the start and of
 -- `jobs::run` say.
 -- Beside the flash the book of demand 3 is kept: it is told each command and whether it was refused, finished or cut,
--- which is what the calls returned. Then there are choices for the cut commands with which, after every command:
+-- which is what the calls returned, and for a create it looks at the flash that the command got. Then there are choices
+-- for the cut commands with which, after every command:
 --   what `reading::table_read` returns and `reading::order_list` writes, into any row with room for the order, is the
 --   book's table and the book's boot order;
 --   if the command finished, both pairs agree;

@@ -8,15 +8,6 @@ use borrow.Author.Needs.{needs}
 use Rattle.bench.proofs.finish.Statement.{statement}
 use Rattle.bench.proofs.finish.Tie as tie
 
-begin-requires : tie.Need-begin-requires
-begin-requires c κs = search needs
-
-run-begun-requires : tie.Need-run-begun-requires
-run-begun-requires c κs = search needs
-
-same-length : tie.Need-same-length
-same-length c = search needs
-
 returns : tie.Need-returns
 returns c =
     let a = c .before .before .before .before .before .before .before .args in
@@ -29,4 +20,4 @@ returns c =
     (c .before .before .run-begun .ensures .0 ∙ done, c .before .before .run-begun .ensures .1 ∙ left)
 
 pub finish-spec : {M : Type 1} → statement M
-finish-spec = tie.close (tie.spec begin-requires run-begun-requires same-length returns)
+finish-spec = tie.close (tie.spec (λ c κs. search needs) (λ c κs. search needs) (λ c. search needs) returns)

@@ -4,23 +4,11 @@ use borrow.Author.Needs.{needs}
 use Rattle.bench.proofs.run_begun.Statement.{statement}
 use Rattle.bench.proofs.run_begun.Tie as tie
 
-enum-known-answer : tie.Need-enum-known-answer
-enum-known-answer c = search needs
-
 enum-told : tie.Need-enum-told
 enum-told c = search needs
 
-remaining-requires : tie.Need-remaining-requires
-remaining-requires c κs = search needs
-
-run-job-requires : tie.Need-run-job-requires
-run-job-requires c κs = search needs
-
 returns : tie.Need-returns
 returns c = start-refused (c .before .before .before .before .before .args .begun) _ _ (c .before .answer .given .1)
-
-same-length : tie.Need-same-length
-same-length c = search needs
 
 returns-2 : tie.Need-returns-2
 returns-2 c = start-run (c .before .before .before .before .before .before .before .before .before .args .begun) _ _ _ _ (c .before .before .before .before .before .enum-told .given .1) (c .before .before .before .remaining .ensures) (c .before .before .run-job .ensures)
@@ -29,10 +17,10 @@ pub run-begun-spec : {M : Type 1} → statement M
 run-begun-spec =
     tie.close
     (tie.spec
-    enum-known-answer
+    (λ c. search needs)
     enum-told
-    remaining-requires
-    run-job-requires
+    (λ c κs. search needs)
+    (λ c κs. search needs)
     returns
-    same-length
+    (λ c. search needs)
     returns-2)

@@ -10,24 +10,9 @@ returns : tie.Need-returns
 unfolding done-by left-by
 returns c = (rw (c .if1 .taken), rw (c .if1 .taken))
 
-run-requires : tie.Need-run-requires
-run-requires c κs = search needs
-
-enum-known-did : tie.Need-enum-known-did
-enum-known-did c = search needs
-
-enum-known-did-2 : tie.Need-enum-known-did-2
-enum-known-did-2 c = search needs
-
-same-length : tie.Need-same-length
-same-length c = search needs
-
 returns-2 : tie.Need-returns-2
 unfolding told ran-by
 returns-2 c = ran-all (c .before .before .before .before .before .before .before .before .before .args .left) _ _ _ (c .before .before .before .before .before .run .result) _ (c .before .before .before .before .before .run .ensures) (c .before .before .before .before .before .before .before .if1 .left) (c .before .did .given .1)
-
-same-length-2 : tie.Need-same-length-2
-same-length-2 c = search needs
 
 returns-3 : tie.Need-returns-3
 unfolding told ran-by
@@ -38,10 +23,10 @@ run-job-spec =
     tie.close
     (tie.spec
     returns
-    run-requires
-    enum-known-did
-    enum-known-did-2
-    same-length
+    (λ c κs. search needs)
+    (λ c. search needs)
+    (λ c. search needs)
+    (λ c. search needs)
     returns-2
-    same-length-2
+    (λ c. search needs)
     returns-3)

@@ -5,48 +5,6 @@ use borrow.Author.Needs.{needs}
 use Rattle.book.proofs.booked.Statement.{statement}
 use Rattle.book.proofs.booked.Tie as tie
 
-enum-known-command : tie.Need-enum-known-command
-enum-known-command c = search needs
-
-with-first-requires : tie.Need-with-first-requires
-with-first-requires c κs = search needs
-
-with-order-requires : tie.Need-with-order-requires
-with-order-requires c κs = search needs
-
-enum-known-command-2 : tie.Need-enum-known-command-2
-enum-known-command-2 c = search needs
-
-without-requires : tie.Need-without-requires
-without-requires c κs = search needs
-
-with-order-requires-2 : tie.Need-with-order-requires-2
-with-order-requires-2 c κs = search needs
-
-enum-known-command-3 : tie.Need-enum-known-command-3
-enum-known-command-3 c = search needs
-
-renamed-requires : tie.Need-renamed-requires
-renamed-requires c κs = search needs
-
-with-order-requires-3 : tie.Need-with-order-requires-3
-with-order-requires-3 c κs = search needs
-
-enum-known-command-4 : tie.Need-enum-known-command-4
-enum-known-command-4 c = search needs
-
-with-new-slot-requires : tie.Need-with-new-slot-requires
-with-new-slot-requires c κs = search needs
-
-with-order-requires-4 : tie.Need-with-order-requires-4
-with-order-requires-4 c κs = search needs
-
-enum-known-command-5 : tie.Need-enum-known-command-5
-enum-known-command-5 c = search needs
-
-deleted-requires : tie.Need-deleted-requires
-deleted-requires c κs = search needs
-
 enum-told : tie.Need-enum-told
 enum-told c = search needs
 
@@ -104,20 +62,20 @@ pub booked-spec : {M : Type 1} → statement M
 booked-spec =
     tie.close
     (tie.spec
-    enum-known-command
-    with-first-requires
-    with-order-requires
-    enum-known-command-2
-    without-requires
-    with-order-requires-2
-    enum-known-command-3
-    renamed-requires
-    with-order-requires-3
-    enum-known-command-4
-    with-new-slot-requires
-    with-order-requires-4
-    enum-known-command-5
-    deleted-requires
+    (λ c. search needs)
+    (λ c κs. search needs)
+    (λ c κs. search needs)
+    (λ c. search needs)
+    (λ c κs. search needs)
+    (λ c κs. search needs)
+    (λ c. search needs)
+    (λ c κs. search needs)
+    (λ c κs. search needs)
+    (λ c. search needs)
+    (λ c κs. search needs)
+    (λ c κs. search needs)
+    (λ c. search needs)
+    (λ c κs. search needs)
     enum-told
     returns
     returns-2

@@ -6,21 +6,12 @@ use Rattle.book.specs.Kept.{reading-of, has-slot, deleted}
 use Rattle.book.proofs.deleted.Statement.{statement}
 use Rattle.book.proofs.deleted.Tie as tie
 
-has-slot-requires : tie.Need-has-slot-requires
-has-slot-requires c κs = search needs
-
 returns : tie.Need-returns
 unfolding deleted reading-of
 returns c = sym (rw (failed (c .before .has-slot .ensures) (c .if1 .taken)))
 
 without-slot-requires : tie.Need-without-slot-requires
 without-slot-requires c κs = passed (c .before .has-slot .ensures) (c .if1 .left)
-
-after-delete-requires : tie.Need-after-delete-requires
-after-delete-requires c κs = search needs
-
-with-order-requires : tie.Need-with-order-requires
-with-order-requires c κs = search needs
 
 returns-2 : tie.Need-returns-2
 unfolding deleted reading-of
@@ -39,9 +30,9 @@ pub deleted-spec : {M : Type 1} → statement M
 deleted-spec =
     tie.close
     (tie.spec
-    has-slot-requires
+    (λ c κs. search needs)
     returns
     without-slot-requires
-    after-delete-requires
-    with-order-requires
+    (λ c κs. search needs)
+    (λ c κs. search needs)
     returns-2)

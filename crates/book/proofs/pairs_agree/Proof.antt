@@ -6,14 +6,8 @@ use borrow.Author.Needs.{needs}
 use Rattle.book.proofs.pairs_agree.Statement.{statement}
 use Rattle.book.proofs.pairs_agree.Tie as tie
 
-view-requires : tie.Need-view-requires
-view-requires c κs = search needs
-
 enum-told : tie.Need-enum-told
 enum-told c = search needs
-
-enum-known-seen : tie.Need-enum-known-seen
-enum-known-seen c = search needs
 
 same-blocks-requires : tie.Need-same-blocks-requires
 same-blocks-requires c κs =
@@ -39,9 +33,9 @@ pub pairs-agree-spec : {M : Type 1} → statement M
 pairs-agree-spec =
     tie.close
     (tie.spec
-    view-requires
+    (λ c κs. search needs)
     enum-told
-    enum-known-seen
+    (λ c. search needs)
     same-blocks-requires
     same-blocks-requires-2
     returns

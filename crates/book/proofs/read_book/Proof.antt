@@ -8,37 +8,10 @@ use borrow.Author.Needs.{needs}
 use Rattle.book.proofs.read_book.Statement.{statement}
 use Rattle.book.proofs.read_book.Tie as tie
 
-no-slots-requires : tie.Need-no-slots-requires
-no-slots-requires c κs = search needs
-
-slice-aggregate-order-list : tie.Need-slice-aggregate-order-list
-slice-aggregate-order-list c = search needs
-
-order-list-requires : tie.Need-order-list-requires
-order-list-requires c κs = search needs
-
-enum-known-listed : tie.Need-enum-known-listed
-enum-known-listed c = search needs
-
-no-block-requires : tie.Need-no-block-requires
-no-block-requires c κs = search needs
-
-book-of-requires : tie.Need-book-of-requires
-book-of-requires c κs = search needs
-
-enum-known-listed-2 : tie.Need-enum-known-listed-2
-enum-known-listed-2 c = search needs
-
-table-read-requires : tie.Need-table-read-requires
-table-read-requires c κs = search needs
-
 block-of-requires : tie.Need-block-of-requires
 block-of-requires c κs =
     ap length (c .table-read .ensures)
     ∙ whole-table _ _ (c .before .before .before .before .before .before .before .no-slots .result) (room-for (c .before .before .before .before .before .before .before .no-slots .ensures)) _ (c .before .before .before .before .before .order-list .ensures .0) _ (c .before .before .listed2 .given .1)
-
-book-of-requires-2 : tie.Need-book-of-requires-2
-book-of-requires-2 c κs = search needs
 
 returns : tie.Need-returns
 unfolding read-as answer-of
@@ -55,15 +28,15 @@ pub read-book-spec : {M : Type 1} → statement M
 read-book-spec =
     tie.close
     (tie.spec
-    no-slots-requires
-    slice-aggregate-order-list
-    order-list-requires
-    enum-known-listed
-    no-block-requires
-    book-of-requires
-    enum-known-listed-2
-    table-read-requires
+    (λ c κs. search needs)
+    (λ c. search needs)
+    (λ c κs. search needs)
+    (λ c. search needs)
+    (λ c κs. search needs)
+    (λ c κs. search needs)
+    (λ c. search needs)
+    (λ c κs. search needs)
     block-of-requires
-    book-of-requires-2
+    (λ c κs. search needs)
     returns
     returns-2)

@@ -7,12 +7,6 @@ use Rattle.book.proofs.reads_as.Tie as tie
 enum-told : tie.Need-enum-told
 enum-told c = search needs
 
-enum-told-2 : tie.Need-enum-told-2
-enum-told-2 c = search needs
-
-same-book-requires : tie.Need-same-book-requires
-same-book-requires c κs = search needs
-
 returns : tie.Need-returns
 unfolding answer-of read-as same-answer
 returns c = rw (c .enum-told .given .1)
@@ -22,4 +16,4 @@ unfolding answer-of read-as same-answer
 returns-2 c = rw (c .before .enum-told2 .given .1) (c .same-book .ensures)
 
 pub reads-as-spec : {M : Type 1} → statement M
-reads-as-spec = tie.close (tie.spec enum-told enum-told-2 same-book-requires returns returns-2)
+reads-as-spec = tie.close (tie.spec enum-told (λ c. search needs) (λ c κs. search needs) returns returns-2)

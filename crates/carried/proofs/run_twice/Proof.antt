@@ -6,15 +6,6 @@ use Rattle.carried.specs.Carrying.{ran-twice}
 use Rattle.carried.proofs.run_twice.Statement.{statement}
 use Rattle.carried.proofs.run_twice.Tie as tie
 
-run-requires : tie.Need-run-requires
-run-requires c κs = search needs
-
-run-requires-2 : tie.Need-run-requires-2
-run-requires-2 c κs = search needs
-
-same-length : tie.Need-same-length
-same-length c = search needs
-
 returns : tie.Need-returns
 unfolding ran-twice all-ran
 returns c =
@@ -28,4 +19,4 @@ returns c =
     )
 
 pub run-twice-spec : {M : Type 1} → statement M
-run-twice-spec = tie.close (tie.spec run-requires run-requires-2 same-length returns)
+run-twice-spec = tie.close (tie.spec (λ c κs. search needs) (λ c κs. search needs) (λ c. search needs) returns)

@@ -7,18 +7,6 @@ use Rattle.carried_for_c.proofs.Carrying.{carried-by}
 use Rattle.carried_for_c.proofs.carry_out.Statement.{statement}
 use Rattle.carried_for_c.proofs.carry_out.Tie as tie
 
-begin-requires : tie.Need-begin-requires
-begin-requires c κs = search needs
-
-run-if-started-requires : tie.Need-run-if-started-requires
-run-if-started-requires c κs = search needs
-
-same-length : tie.Need-same-length
-same-length c = search needs
-
-same-length-2 : tie.Need-same-length-2
-same-length-2 c = search needs
-
 returns : tie.Need-returns
 returns c =
     let at-runs = c .before .before .before .before in
@@ -37,4 +25,4 @@ returns c =
 
 pub carry-out-spec : {M : Type 1} → statement M
 carry-out-spec =
-    tie.close (tie.spec begin-requires run-if-started-requires same-length same-length-2 returns)
+    tie.close (tie.spec (λ c κs. search needs) (λ c κs. search needs) (λ c. search needs) (λ c. search needs) returns)

@@ -5,12 +5,6 @@ use Rattle.carried_for_c.specs.Carrying.{order-told}
 use Rattle.carried_for_c.proofs.read_order.Statement.{statement}
 use Rattle.carried_for_c.proofs.read_order.Tie as tie
 
-delunkpawi-order-requires : tie.Need-delunkpawi-order-requires
-delunkpawi-order-requires c κs = search needs
-
-same-length : tie.Need-same-length
-same-length c = search needs
-
 returns : tie.Need-returns
 unfolding order-told
 returns c r e fits =
@@ -20,4 +14,4 @@ returns c r e fits =
     told .order _ _ _ _ _ fits (at-order .delunkpawi-order .ensures)
 
 pub read-order-spec : {M : Type 1} → statement M
-read-order-spec = tie.close (tie.spec delunkpawi-order-requires same-length returns)
+read-order-spec = tie.close (tie.spec (λ c κs. search needs) (λ c. search needs) returns)

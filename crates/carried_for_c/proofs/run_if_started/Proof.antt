@@ -10,18 +10,6 @@ returns c =
     let a = c .before .before .before .args in
     not-started (a .number) (lent (a .job .now) (a .image .now) (a .done .now)) (a .first) (a .second) (c .if1 .taken)
 
-delunkpawi-run-requires : tie.Need-delunkpawi-run-requires
-delunkpawi-run-requires c κs = search needs
-
-delunkpawi-run-requires-2 : tie.Need-delunkpawi-run-requires-2
-delunkpawi-run-requires-2 c κs = search needs
-
-same-length : tie.Need-same-length
-same-length c = search needs
-
-same-length-2 : tie.Need-same-length-2
-same-length-2 c = search needs
-
 returns-2 : tie.Need-returns-2
 returns-2 c =
     let at-second = c .before .before .before .before in
@@ -40,8 +28,8 @@ run-if-started-spec =
     tie.close
     (tie.spec
     returns
-    delunkpawi-run-requires
-    delunkpawi-run-requires-2
-    same-length
-    same-length-2
+    (λ c κs. search needs)
+    (λ c κs. search needs)
+    (λ c. search needs)
+    (λ c. search needs)
     returns-2)

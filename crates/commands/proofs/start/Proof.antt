@@ -6,18 +6,6 @@ use Rattle.commands.specs.Begins.{returned, start-result}
 use Rattle.commands.proofs.start.Statement.{statement}
 use Rattle.commands.proofs.start.Tie as tie
 
-view-requires : tie.Need-view-requires
-view-requires c κs = search needs
-
-enum-known-seen : tie.Need-enum-known-seen
-enum-known-seen c = search needs
-
-refuse-requires : tie.Need-refuse-requires
-refuse-requires c κs = search needs
-
-enum-known-seen-2 : tie.Need-enum-known-seen-2
-enum-known-seen-2 c = search needs
-
 start-by-requires : tie.Need-start-by-requires
 start-by-requires c κs =
     let called = c .before .before .before in
@@ -39,10 +27,10 @@ pub start-spec : {M : Type 1} → statement M
 start-spec =
     tie.close
     (tie.spec
-    view-requires
-    enum-known-seen
-    refuse-requires
-    enum-known-seen-2
+    (λ c κs. search needs)
+    (λ c. search needs)
+    (λ c κs. search needs)
+    (λ c. search needs)
     start-by-requires
     returns
     returns-2)

@@ -4,41 +4,8 @@ use Rattle.commands.specs.Begins.{command-of}
 use Rattle.commands.proofs.start_by.Statement.{statement}
 use Rattle.commands.proofs.start_by.Tie as tie
 
-enum-known-command : tie.Need-enum-known-command
-enum-known-command c = search needs
-
-enable-by-requires : tie.Need-enable-by-requires
-enable-by-requires c κs = search needs
-
-enum-known-command-2 : tie.Need-enum-known-command-2
-enum-known-command-2 c = search needs
-
-disable-by-requires : tie.Need-disable-by-requires
-disable-by-requires c κs = search needs
-
-enum-known-command-3 : tie.Need-enum-known-command-3
-enum-known-command-3 c = search needs
-
-rename-by-requires : tie.Need-rename-by-requires
-rename-by-requires c κs = search needs
-
-enum-known-command-4 : tie.Need-enum-known-command-4
-enum-known-command-4 c = search needs
-
-create-by-requires : tie.Need-create-by-requires
-create-by-requires c κs = search needs
-
-enum-known-command-5 : tie.Need-enum-known-command-5
-enum-known-command-5 c = search needs
-
-delete-by-requires : tie.Need-delete-by-requires
-delete-by-requires c κs = search needs
-
 enum-told : tie.Need-enum-told
 enum-told c = search needs
-
-repair-by-requires : tie.Need-repair-by-requires
-repair-by-requires c κs = search needs
 
 returns : tie.Need-returns
 unfolding command-of
@@ -68,18 +35,18 @@ pub start-by-spec : {M : Type 1} → statement M
 start-by-spec =
     tie.close
     (tie.spec
-    enum-known-command
-    enable-by-requires
-    enum-known-command-2
-    disable-by-requires
-    enum-known-command-3
-    rename-by-requires
-    enum-known-command-4
-    create-by-requires
-    enum-known-command-5
-    delete-by-requires
+    (λ c. search needs)
+    (λ c κs. search needs)
+    (λ c. search needs)
+    (λ c κs. search needs)
+    (λ c. search needs)
+    (λ c κs. search needs)
+    (λ c. search needs)
+    (λ c κs. search needs)
+    (λ c. search needs)
+    (λ c κs. search needs)
     enum-told
-    repair-by-requires
+    (λ c κs. search needs)
     returns
     returns-2
     returns-3

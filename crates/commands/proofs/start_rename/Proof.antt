@@ -4,12 +4,9 @@ use Rattle.commands.specs.Begins.{command-of}
 use Rattle.commands.proofs.start_rename.Statement.{statement}
 use Rattle.commands.proofs.start_rename.Tie as tie
 
-start-requires : tie.Need-start-requires
-start-requires c κs = search needs
-
 returns : tie.Need-returns
 unfolding command-of
 returns c = c .start .ensures
 
 pub start-rename-spec : {M : Type 1} → statement M
-start-rename-spec = tie.close (tie.spec start-requires returns)
+start-rename-spec = tie.close (tie.spec (λ c κs. search needs) returns)

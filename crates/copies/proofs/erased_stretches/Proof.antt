@@ -19,27 +19,6 @@ Inv-loop a k₀ k =
 abbrev μ-loop : tie.MeasureT-loop
 μ-loop a k₀ k = 8 - k
 
-loop-holds : tie.Need-loop-holds Inv-loop μ-loop
-loop-holds c = search needs
-
-mul-from : tie.Need-mul-from Inv-loop μ-loop
-mul-from c = search needs
-
-add-end : tie.Need-add-end Inv-loop μ-loop
-add-end c = search needs
-
-sub-erased-bytes : tie.Need-sub-erased-bytes Inv-loop μ-loop
-sub-erased-bytes c = search needs
-
-part-erased-bytes-start : tie.Need-part-erased-bytes-start Inv-loop μ-loop
-part-erased-bytes-start c = search needs
-
-part-erased-bytes-end : tie.Need-part-erased-bytes-end Inv-loop μ-loop
-part-erased-bytes-end c = search needs
-
-erased-bytes-requires : tie.Need-erased-bytes-requires Inv-loop μ-loop
-erased-bytes-requires c κs = search needs
-
 returns : tie.Need-returns Inv-loop μ-loop
 returns c =
     let at = c .before .before .before .before in
@@ -49,12 +28,6 @@ returns c =
     ∙ stretch-fails a (replicate (length a) erased-byte) from (from + 512 - from) (as-long erased-byte a)
     (one-byte-stretch erased-byte a from (from + 512 - from)
     (failed (c .before .erased-bytes .ensures) (c .if1 .taken))))
-
-add-k : tie.Need-add-k Inv-loop μ-loop
-add-k c = search needs
-
-loop-less : tie.Need-loop-less Inv-loop μ-loop
-loop-less c = search needs
 
 loop-again : tie.Need-loop-again Inv-loop μ-loop
 loop-again c =
@@ -83,15 +56,15 @@ erased-stretches-spec =
     (tie.spec
     Inv-loop
     μ-loop
-    loop-holds
-    mul-from
-    add-end
-    sub-erased-bytes
-    part-erased-bytes-start
-    part-erased-bytes-end
-    erased-bytes-requires
+    (λ c. search needs)
+    (λ c. search needs)
+    (λ c. search needs)
+    (λ c. search needs)
+    (λ c. search needs)
+    (λ c. search needs)
+    (λ c κs. search needs)
     returns
-    add-k
-    loop-less
+    (λ c. search needs)
+    (λ c. search needs)
     loop-again
     returns-2)

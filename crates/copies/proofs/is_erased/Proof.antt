@@ -8,12 +8,6 @@ use Rattle.copies.proofs.EqualBytes.{same-as-one-byte}
 use Rattle.copies.proofs.is_erased.Statement.{statement}
 use Rattle.copies.proofs.is_erased.Tie as tie
 
-block-at-requires : tie.Need-block-at-requires
-block-at-requires c κs = search needs
-
-erased-stretches-requires : tie.Need-erased-stretches-requires
-erased-stretches-requires c κs = search needs
-
 returns : tie.Need-returns
 unfolding slot-empty
 returns c =
@@ -24,4 +18,4 @@ returns c =
 
 pub is-erased-spec : {M : Type 1} → statement M
 is-erased-spec =
-    tie.close (tie.spec block-at-requires erased-stretches-requires returns)
+    tie.close (tie.spec (λ c κs. search needs) (λ c κs. search needs) returns)

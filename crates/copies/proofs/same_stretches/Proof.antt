@@ -17,33 +17,6 @@ Inv-loop a b k₀ k = (k ≤ 8) × (same a b ≡ same (drop (512 * k) a) (drop (
 abbrev μ-loop : tie.MeasureT-loop
 μ-loop a b k₀ k = 8 - k
 
-loop-holds : tie.Need-loop-holds Inv-loop μ-loop
-loop-holds c = search needs
-
-mul-from : tie.Need-mul-from Inv-loop μ-loop
-mul-from c = search needs
-
-add-end : tie.Need-add-end Inv-loop μ-loop
-add-end c = search needs
-
-sub-same-bytes : tie.Need-sub-same-bytes Inv-loop μ-loop
-sub-same-bytes c = search needs
-
-part-same-bytes-start : tie.Need-part-same-bytes-start Inv-loop μ-loop
-part-same-bytes-start c = search needs
-
-part-same-bytes-end : tie.Need-part-same-bytes-end Inv-loop μ-loop
-part-same-bytes-end c = search needs
-
-sub-same-bytes-2 : tie.Need-sub-same-bytes-2 Inv-loop μ-loop
-sub-same-bytes-2 c = search needs
-
-part-same-bytes-start-2 : tie.Need-part-same-bytes-start-2 Inv-loop μ-loop
-part-same-bytes-start-2 c = search needs
-
-part-same-bytes-end-2 : tie.Need-part-same-bytes-end-2 Inv-loop μ-loop
-part-same-bytes-end-2 c = search needs
-
 same-bytes-requires : tie.Need-same-bytes-requires Inv-loop μ-loop
 same-bytes-requires c κs = simp (length-take, length-drop) (omega arith)
 
@@ -56,12 +29,6 @@ returns c =
     sym (at .loop .inv .1
     ∙ stretch-fails (a .a .now) (a .b .now) from (from + 512 - from) (omega arith)
     (failed (c .before .same-bytes .ensures) (c .if1 .taken)))
-
-add-k : tie.Need-add-k Inv-loop μ-loop
-add-k c = search needs
-
-loop-less : tie.Need-loop-less Inv-loop μ-loop
-loop-less c = search needs
 
 loop-again : tie.Need-loop-again Inv-loop μ-loop
 loop-again c =
@@ -89,18 +56,18 @@ same-stretches-spec =
     (tie.spec
     Inv-loop
     μ-loop
-    loop-holds
-    mul-from
-    add-end
-    sub-same-bytes
-    part-same-bytes-start
-    part-same-bytes-end
-    sub-same-bytes-2
-    part-same-bytes-start-2
-    part-same-bytes-end-2
+    (λ c. search needs)
+    (λ c. search needs)
+    (λ c. search needs)
+    (λ c. search needs)
+    (λ c. search needs)
+    (λ c. search needs)
+    (λ c. search needs)
+    (λ c. search needs)
+    (λ c. search needs)
     same-bytes-requires
     returns
-    add-k
-    loop-less
+    (λ c. search needs)
+    (λ c. search needs)
     loop-again
     returns-2)

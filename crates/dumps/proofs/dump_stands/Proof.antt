@@ -9,12 +9,9 @@ returns : tie.Need-returns
 unfolding dump-stands
 returns c = rw (ne-eqb _ _ (c .if1 .taken))
 
-block-stands-requires : tie.Need-block-stands-requires
-block-stands-requires c κs = search needs
-
 returns-2 : tie.Need-returns-2
 unfolding dump-stands
 returns-2 c = rw (eq-eqb _ _ (c .before .if1 .left)) (c .block-stands .ensures)
 
 pub dump-stands-spec : {M : Type 1} → statement M
-dump-stands-spec = tie.close (tie.spec returns block-stands-requires returns-2)
+dump-stands-spec = tie.close (tie.spec returns (λ c κs. search needs) returns-2)

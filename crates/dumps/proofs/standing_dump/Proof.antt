@@ -5,15 +5,9 @@ use Rattle.rules.specs.Copies.{standing-dump}
 use Rattle.dumps.proofs.standing_dump.Statement.{statement}
 use Rattle.dumps.proofs.standing_dump.Tie as tie
 
-dump-stands-requires : tie.Need-dump-stands-requires
-dump-stands-requires c κs = search needs
-
 returns : tie.Need-returns
 unfolding standing-dump
 returns c = rw (sym (c .before .dump-stands .ensures) ∙ c .if1 .taken)
-
-dump-stands-requires-2 : tie.Need-dump-stands-requires-2
-dump-stands-requires-2 c κs = search needs
 
 returns-2 : tie.Need-returns-2
 unfolding standing-dump
@@ -23,9 +17,6 @@ returns-2 c =
       sym (not-first .before .dump-stands .ensures) ∙ not-first .if1 .left,
       sym (c .before .dump-stands2 .ensures) ∙ c .if2 .taken,
     )
-
-slice-aggregate-result : tie.Need-slice-aggregate-result
-slice-aggregate-result c = search needs
 
 returns-3 : tie.Need-returns-3
 unfolding standing-dump
@@ -41,9 +32,9 @@ pub standing-dump-spec : {M : Type 1} → statement M
 standing-dump-spec =
     tie.close
     (tie.spec
-    dump-stands-requires
+    (λ c κs. search needs)
     returns
-    dump-stands-requires-2
+    (λ c κs. search needs)
     returns-2
-    slice-aggregate-result
+    (λ c. search needs)
     returns-3)

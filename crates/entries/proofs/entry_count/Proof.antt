@@ -4,12 +4,9 @@ use Rattle.rules.specs.Table.{entry-count}
 use Rattle.entries.proofs.entry_count.Statement.{statement}
 use Rattle.entries.proofs.entry_count.Tie as tie
 
-le32-requires : tie.Need-le32-requires
-le32-requires c κs = search needs
-
 returns : tie.Need-returns
 unfolding entry-count
 returns c = c .le32 .ensures .0
 
 pub entry-count-spec : {M : Type 1} → statement M
-entry-count-spec = tie.close (tie.spec le32-requires returns)
+entry-count-spec = tie.close (tie.spec (λ c κs. search needs) returns)

@@ -10,24 +10,6 @@ use Rattle.walks.specs.Entries.{entry-at}
 use Rattle.entries.proofs.entry_name.Statement.{statement}
 use Rattle.entries.proofs.entry_name.Tie as tie
 
-mul-at : tie.Need-mul-at
-mul-at c = search needs
-
-add-at : tie.Need-add-at
-add-at c = search needs
-
-add-result : tie.Need-add-result
-add-result c = search needs
-
-sub-result : tie.Need-sub-result
-sub-result c = search needs
-
-part-result-start : tie.Need-part-result-start
-part-result-start c = search needs
-
-part-result-end : tie.Need-part-result-end
-part-result-end c = search needs
-
 returns : tie.Need-returns
 unfolding entry-at entry
 returns c =
@@ -39,4 +21,4 @@ returns c =
 pub entry-name-spec : {M : Type 1} → statement M
 entry-name-spec =
     tie.close
-    (tie.spec mul-at add-at add-result sub-result part-result-start part-result-end returns)
+    (tie.spec (λ c. search needs) (λ c. search needs) (λ c. search needs) (λ c. search needs) (λ c. search needs) (λ c. search needs) returns)

@@ -8,18 +8,6 @@ use Rattle.walks.proofs.Fields.{field-drop}
 use Rattle.entries.proofs.entry_start.Statement.{statement}
 use Rattle.entries.proofs.entry_start.Tie as tie
 
-mul-le64 : tie.Need-mul-le64
-mul-le64 c = search needs
-
-add-le64 : tie.Need-add-le64
-add-le64 c = search needs
-
-add-le64-2 : tie.Need-add-le64-2
-add-le64-2 c = search needs
-
-le64-requires : tie.Need-le64-requires
-le64-requires c κs = search needs
-
 returns : tie.Need-returns
 unfolding entry-at entry
 returns c =
@@ -27,4 +15,4 @@ returns c =
     c .le64 .ensures ∙ sym (field-drop 16 8 (0x20 + 32 * a .e .0) (a .table .now))
 
 pub entry-start-spec : {M : Type 1} → statement M
-entry-start-spec = tie.close (tie.spec mul-le64 add-le64 add-le64-2 le64-requires returns)
+entry-start-spec = tie.close (tie.spec (λ c. search needs) (λ c. search needs) (λ c. search needs) (λ c κs. search needs) returns)

@@ -8,12 +8,6 @@ use Rattle.walks.proofs.Joined.{failed}
 use Rattle.entries.proofs.is_wanted.Statement.{statement}
 use Rattle.entries.proofs.is_wanted.Tie as tie
 
-entry-name-requires : tie.Need-entry-name-requires
-entry-name-requires c κs = search needs
-
-begin-alike-requires : tie.Need-begin-alike-requires
-begin-alike-requires c κs = search needs
-
 returns : tie.Need-returns
 unfolding has-name name
 returns c =
@@ -22,13 +16,7 @@ returns c =
     sym (rw (← found .ensures .0) (begin-otherwise (found .result .now) (c .before .before .before .before .before .args .wanted .now)
     (omega (arith, found .ensures .1)) differ))
 
-has-name-requires : tie.Need-has-name-requires
-has-name-requires c κs = search needs
-
-returns-2 : tie.Need-returns-2
-returns-2 c = search needs
-
 pub is-wanted-spec : {M : Type 1} → statement M
 is-wanted-spec =
     tie.close
-    (tie.spec entry-name-requires begin-alike-requires returns has-name-requires returns-2)
+    (tie.spec (λ c κs. search needs) (λ c κs. search needs) returns (λ c κs. search needs) (λ c. search needs))

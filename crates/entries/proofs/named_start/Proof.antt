@@ -8,12 +8,6 @@ use Rattle.walks.proofs.Find.{named-found, named-not-found}
 use Rattle.entries.proofs.named_start.Statement.{statement}
 use Rattle.entries.proofs.named_start.Tie as tie
 
-find-named-requires : tie.Need-find-named-requires
-find-named-requires c κs = search needs
-
-entry-start-requires : tie.Need-entry-start-requires
-entry-start-requires c κs = search needs
-
 returns : tie.Need-returns
 returns c =
     let f = c .before .before .before in
@@ -32,4 +26,4 @@ returns-2 c =
     ap (λ (e : Entry). e .start) (sym not-found)
 
 pub named-start-spec : {M : Type 1} → statement M
-named-start-spec = tie.close (tie.spec find-named-requires entry-start-requires returns returns-2)
+named-start-spec = tie.close (tie.spec (λ c κs. search needs) (λ c κs. search needs) returns returns-2)

@@ -11,12 +11,6 @@ use Rattle.jobs.proofs.advance.Tie as tie
 sizes : (s : tie.Start) → Arrays (s .args .job)
 sizes s = record { first = search needs; second = search needs }
 
-counted-of-requires : tie.Need-counted-of-requires
-counted-of-requires c κs = search needs
-
-returned-requires : tie.Need-returned-requires
-returned-requires c κs = search needs
-
 returns : tie.Need-returns
 unfolding counting
 returns c =
@@ -30,4 +24,4 @@ returns c =
     )
 
 pub advance-spec : {M : Type 1} → statement M
-advance-spec = tie.close (tie.spec counted-of-requires returned-requires returns)
+advance-spec = tie.close (tie.spec (λ c κs. search needs) (λ c κs. search needs) returns)

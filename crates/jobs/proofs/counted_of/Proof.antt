@@ -11,18 +11,12 @@ use Rattle.jobs.proofs.Counting.{counts-none, counts-some}
 use Rattle.jobs.proofs.counted_of.Statement.{statement}
 use Rattle.jobs.proofs.counted_of.Tie as tie
 
-remaining-of-requires : tie.Need-remaining-of-requires
-remaining-of-requires c κs = search needs
-
 returns : tie.Need-returns
 unfolding countable
 returns c =
     let at-left = c .before in
     let a = at-left .before .args in
     (rw (← at-left .remaining-of .ensures) (counts-none (at-left .remaining-of .result) (a .n) (c .if1 .taken)), λ n e. absurd (refused-steps (numbered 11) n e))
-
-least-requires : tie.Need-least-requires
-least-requires c κs = search needs
 
 returns-2 : tie.Need-returns-2
 unfolding countable
@@ -37,4 +31,4 @@ returns-2 c =
     )
 
 pub counted-of-spec : {M : Type 1} → statement M
-counted-of-spec = tie.close (tie.spec remaining-of-requires returns least-requires returns-2)
+counted-of-spec = tie.close (tie.spec (λ c κs. search needs) returns (λ c κs. search needs) returns-2)

@@ -4,12 +4,9 @@ use Rattle.jobs.specs.Jobs.{next-of, steps-of}
 use Rattle.jobs.proofs.next_lent.Statement.{statement}
 use Rattle.jobs.proofs.next_lent.Tie as tie
 
-next-of-parts-requires : tie.Need-next-of-parts-requires
-next-of-parts-requires c κs = search needs
-
 returns : tie.Need-returns
 unfolding next-of steps-of
 returns c = c .next-of-parts .ensures
 
 pub next-lent-spec : {M : Type 1} → statement M
-next-lent-spec = tie.close (tie.spec next-of-parts-requires returns)
+next-lent-spec = tie.close (tie.spec (λ c κs. search needs) returns)

@@ -4,14 +4,8 @@ use borrow.Author.Needs.{needs}
 use Rattle.jobs.proofs.remaining_of.Statement.{statement}
 use Rattle.jobs.proofs.remaining_of.Tie as tie
 
-step-count-requires : tie.Need-step-count-requires
-step-count-requires c κs = search needs
-
-less-requires : tie.Need-less-requires
-less-requires c κs = search needs
-
 returns : tie.Need-returns
 returns c = c .less .ensures ∙ rw (c .before .step-count .ensures .0)
 
 pub remaining-of-spec : {M : Type 1} → statement M
-remaining-of-spec = tie.close (tie.spec step-count-requires less-requires returns)
+remaining-of-spec = tie.close (tie.spec (λ c κs. search needs) (λ c κs. search needs) returns)

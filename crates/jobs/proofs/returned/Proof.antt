@@ -5,12 +5,6 @@ use Rattle.jobs.specs.Inner.Parts.{countable}
 use Rattle.jobs.proofs.returned.Statement.{statement}
 use Rattle.jobs.proofs.returned.Tie as tie
 
-enum-known-did : tie.Need-enum-known-did
-enum-known-did c = search needs
-
-enum-known-did-2 : tie.Need-enum-known-did-2
-enum-known-did-2 c = search needs
-
 add-next : tie.Need-add-next
 unfolding countable
 add-next c =
@@ -25,4 +19,4 @@ returns-2 : tie.Need-returns-2
 returns-2 c = rw (c .before .before .did2 .given .1)
 
 pub returned-spec : {M : Type 1} → statement M
-returned-spec = tie.close (tie.spec enum-known-did enum-known-did-2 add-next returns returns-2)
+returned-spec = tie.close (tie.spec (λ c. search needs) (λ c. search needs) add-next returns returns-2)

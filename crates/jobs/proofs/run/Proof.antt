@@ -8,21 +8,6 @@ use Rattle.jobs.proofs.run.Tie as tie
 sizes : (s : tie.Start) → Arrays (s .args .job)
 sizes s = record { first = search needs; second = search needs }
 
-slice-aggregate-run-lent : tie.Need-slice-aggregate-run-lent
-slice-aggregate-run-lent c = search needs
-
-slice-aggregate-run-lent-2 : tie.Need-slice-aggregate-run-lent-2
-slice-aggregate-run-lent-2 c = search needs
-
-slice-aggregate-run-lent-3 : tie.Need-slice-aggregate-run-lent-3
-slice-aggregate-run-lent-3 c = search needs
-
-slice-aggregate-run-lent-4 : tie.Need-slice-aggregate-run-lent-4
-slice-aggregate-run-lent-4 c = search needs
-
-run-lent-requires : tie.Need-run-lent-requires
-run-lent-requires c κs = search needs
-
 returned-requires : tie.Need-returned-requires
 returned-requires c κs =
     let at-run-lent = c .before .before in
@@ -30,9 +15,6 @@ returned-requires c κs =
     let a = s .args in
     run-countable (a .job) (a .image .now) (sizes s) (a .budget) (at-run-lent .run-lent .result)
     (at-run-lent .run-lent .ensures .0)
-
-same-length : tie.Need-same-length
-same-length c = search needs
 
 returns : tie.Need-returns
 returns c =
@@ -48,11 +30,11 @@ pub run-spec : {M : Type 1} → statement M
 run-spec =
     tie.close
     (tie.spec
-    slice-aggregate-run-lent
-    slice-aggregate-run-lent-2
-    slice-aggregate-run-lent-3
-    slice-aggregate-run-lent-4
-    run-lent-requires
+    (λ c. search needs)
+    (λ c. search needs)
+    (λ c. search needs)
+    (λ c. search needs)
+    (λ c κs. search needs)
     returned-requires
-    same-length
+    (λ c. search needs)
     returns)

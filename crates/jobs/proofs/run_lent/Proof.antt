@@ -22,9 +22,6 @@ job s =
 sizes : (s : tie.Start) → Arrays (job s)
 sizes s = record { first = s .pre .0; second = s .pre .1 }
 
-step-count-requires : tie.Need-step-count-requires
-step-count-requires c κs = search needs
-
 returns : tie.Need-returns
 returns c =
     let at-step-count = c .before in
@@ -32,9 +29,6 @@ returns c =
     let a = s .args in
     stays (job s) (a .budget) (numbered 11) (a .image .now)
     (finished-11 (job s) (sizes s) (a .image .now) (omega (arith, at-step-count .step-count .ensures .0)))
-
-steps-inside-requires : tie.Need-steps-inside-requires
-steps-inside-requires c κs = search needs
 
 returns-2 : tie.Need-returns-2
 returns-2 c =
@@ -60,15 +54,6 @@ do-steps-requires c κs =
       rw (← at-steps-inside .steps-inside .ensures) (and-true same-len (at-steps-inside .steps-inside .result) t .1),
     )
 
-sub-least : tie.Need-sub-least
-sub-least c = search needs
-
-least-requires : tie.Need-least-requires
-least-requires c κs = search needs
-
-same-length : tie.Need-same-length
-same-length c = search needs
-
 returns-3 : tie.Need-returns-3
 unfolding steps-of chosen
 returns-3 c =
@@ -90,12 +75,12 @@ pub run-lent-spec : {M : Type 1} → statement M
 run-lent-spec =
     tie.close
     (tie.spec
-    step-count-requires
+    (λ c κs. search needs)
     returns
-    steps-inside-requires
+    (λ c κs. search needs)
     returns-2
     do-steps-requires
-    sub-least
-    least-requires
-    same-length
+    (λ c. search needs)
+    (λ c κs. search needs)
+    (λ c. search needs)
     returns-3)

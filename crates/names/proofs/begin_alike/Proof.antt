@@ -6,14 +6,8 @@ use Rattle.names.proofs.begin_alike.Reads as reads
 use Rattle.names.proofs.begin_alike.Lts as lts
 use Rattle.names.proofs.byte_or_zero.Reads as byte-or-zero-reads
 
-byte-or-zero-requires : tie.Need-byte-or-zero-requires
-byte-or-zero-requires c κs = search needs
-
-byte-or-zero-requires-2 : tie.Need-byte-or-zero-requires-2
-byte-or-zero-requires-2 c κs = search needs
-
 returns : tie.Need-returns
 returns c = rw (c .before .byte-or-zero .ensures, c .byte-or-zero2 .ensures)
 
 pub begin-alike-spec : {M : Type 1} → statement M
-begin-alike-spec = tie.close (tie.spec byte-or-zero-requires byte-or-zero-requires-2 returns)
+begin-alike-spec = tie.close (tie.spec (λ c κs. search needs) (λ c κs. search needs) returns)

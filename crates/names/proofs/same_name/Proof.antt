@@ -17,15 +17,6 @@ Inv-loop a b i₀ i = (i ≤ length a) × (same-from a b 0 ≡ same-from a b i)
 abbrev μ-loop : tie.MeasureT-loop
 μ-loop a b i₀ i = length a - i
 
-loop-holds : tie.Need-loop-holds Inv-loop μ-loop
-loop-holds c = search needs
-
-shared-slice-read-x : tie.Need-shared-slice-read-x Inv-loop μ-loop
-shared-slice-read-x c = search needs
-
-byte-or-zero-requires : tie.Need-byte-or-zero-requires Inv-loop μ-loop
-byte-or-zero-requires c κs = search needs
-
 returns : tie.Need-returns Inv-loop μ-loop
 returns c =
     let at = c .before .before .before .before in
@@ -42,12 +33,6 @@ returns-2 c =
     let equal = c .before .if1 .left ∙ c .before .before .byte-or-zero .ensures in
     sym (at .loop .inv .1 ∙ same-ends (s .a .now) (s .b .now) (at .loop .i) (omega arith) equal (c .if2 .taken))
 
-add-i : tie.Need-add-i Inv-loop μ-loop
-add-i c = search needs
-
-loop-less : tie.Need-loop-less Inv-loop μ-loop
-loop-less c = search needs
-
 loop-again : tie.Need-loop-again Inv-loop μ-loop
 loop-again c =
     let at = c .before .before .before .before .before in
@@ -55,9 +40,6 @@ loop-again c =
     let equal = c .before .if1 .left ∙ c .before .before .byte-or-zero .ensures in
     let goes = same-goes (s .a .now) (s .b .now) (at .loop .i) (omega arith) equal (c .if2 .left) in
     (omega arith, rw add-one (at .loop .inv .1 ∙ goes))
-
-byte-or-zero-requires-2 : tie.Need-byte-or-zero-requires-2 Inv-loop μ-loop
-byte-or-zero-requires-2 c κs = search needs
 
 returns-3 : tie.Need-returns-3 Inv-loop μ-loop
 returns-3 c =
@@ -72,13 +54,13 @@ same-name-spec =
     (tie.spec
     Inv-loop
     μ-loop
-    loop-holds
-    shared-slice-read-x
-    byte-or-zero-requires
+    (λ c. search needs)
+    (λ c. search needs)
+    (λ c κs. search needs)
     returns
     returns-2
-    add-i
-    loop-less
+    (λ c. search needs)
+    (λ c. search needs)
     loop-again
-    byte-or-zero-requires-2
+    (λ c κs. search needs)
     returns-3)

@@ -8,20 +8,8 @@ use Rattle.places.proofs.Free.{live-used}
 use Rattle.places.proofs.added_by.Statement.{statement}
 use Rattle.places.proofs.added_by.Tie as tie
 
-place-value-requires : tie.Need-place-value-requires
-place-value-requires c κs = search needs
-
-judge-requires : tie.Need-judge-requires
-judge-requires c κs = search needs
-
 enum-told : tie.Need-enum-told
 enum-told c = search needs
-
-enum-told-2 : tie.Need-enum-told-2
-enum-told-2 c = search needs
-
-enum-known-judgement : tie.Need-enum-known-judgement
-enum-known-judgement c = search needs
 
 held-above-requires : tie.Need-held-above-requires
 held-above-requires c κs =
@@ -46,12 +34,6 @@ returns c =
       live .judgement .given .1,
       sym (held .held-above .ensures) ∙ c .if1 .taken,
     )
-
-enum-told-3 : tie.Need-enum-told-3
-enum-told-3 c = search needs
-
-enum-told-4 : tie.Need-enum-told-4
-enum-told-4 c = search needs
 
 returns-2 : tie.Need-returns-2
 unfolding added-at added
@@ -94,15 +76,15 @@ pub added-by-spec : {M : Type 1} → statement M
 added-by-spec =
     tie.close
     (tie.spec
-    place-value-requires
-    judge-requires
+    (λ c κs. search needs)
+    (λ c κs. search needs)
     enum-told
-    enum-told-2
-    enum-known-judgement
+    (λ c. search needs)
+    (λ c. search needs)
     held-above-requires
     returns
-    enum-told-3
-    enum-told-4
+    (λ c. search needs)
+    (λ c. search needs)
     returns-2
     returns-3
     returns-4

@@ -4,30 +4,6 @@ use Rattle.rules.specs.Pointers.{pointers-stand, place-offset, place-count}
 use Rattle.places.proofs.block_stands.Statement.{statement}
 use Rattle.places.proofs.block_stands.Tie as tie
 
-le32-requires : tie.Need-le32-requires
-le32-requires c κs = search needs
-
-le32-requires-2 : tie.Need-le32-requires-2
-le32-requires-2 c κs = search needs
-
-le32-requires-3 : tie.Need-le32-requires-3
-le32-requires-3 c κs = search needs
-
-le32-requires-4 : tie.Need-le32-requires-4
-le32-requires-4 c κs = search needs
-
-offset-right-requires : tie.Need-offset-right-requires
-offset-right-requires c κs = search needs
-
-le32-requires-5 : tie.Need-le32-requires-5
-le32-requires-5 c κs = search needs
-
-le32-requires-6 : tie.Need-le32-requires-6
-le32-requires-6 c κs = search needs
-
-fits-room-requires : tie.Need-fits-room-requires
-fits-room-requires c κs = search needs
-
 returns : tie.Need-returns
 unfolding pointers-stand place-offset place-count
 returns c =
@@ -51,12 +27,12 @@ pub block-stands-spec : {M : Type 1} → statement M
 block-stands-spec =
     tie.close
     (tie.spec
-    le32-requires
-    le32-requires-2
-    le32-requires-3
-    le32-requires-4
-    offset-right-requires
-    le32-requires-5
-    le32-requires-6
-    fits-room-requires
+    (λ c κs. search needs)
+    (λ c κs. search needs)
+    (λ c κs. search needs)
+    (λ c κs. search needs)
+    (λ c κs. search needs)
+    (λ c κs. search needs)
+    (λ c κs. search needs)
+    (λ c κs. search needs)
     returns)

@@ -4,12 +4,9 @@ use Rattle.rules.specs.Pointers.{fits-room}
 use Rattle.places.proofs.fits_room.Statement.{statement}
 use Rattle.places.proofs.fits_room.Tie as tie
 
-room-left-requires : tie.Need-room-left-requires
-room-left-requires c κs = search needs
-
 returns : tie.Need-returns
 unfolding fits-room
 returns c = rw (c .room-left .ensures)
 
 pub fits-room-spec : {M : Type 1} → statement M
-fits-room-spec = tie.close (tie.spec room-left-requires returns)
+fits-room-spec = tie.close (tie.spec (λ c κs. search needs) returns)

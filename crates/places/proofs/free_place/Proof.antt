@@ -22,22 +22,10 @@ Inv-loop p offset k₀ k = (k ≤ place-count p) × (all all-ones (drop k (place
 abbrev μ-loop : tie.MeasureT-loop
 μ-loop p offset k₀ k = k
 
-place-offset-requires : tie.Need-place-offset-requires Inv-loop μ-loop
-place-offset-requires c κs = search needs
-
-place-count-requires : tie.Need-place-count-requires Inv-loop μ-loop
-place-count-requires c κs = search needs
-
 loop-holds : tie.Need-loop-holds Inv-loop μ-loop
 loop-holds c =
     let p = c .before .before .before .args .p .now in
     rw (c .place-count .ensures) (omega arith, all-over all-ones (place-over p (place-count p) (omega arith)))
-
-sub-t6 : tie.Need-sub-t6 Inv-loop μ-loop
-sub-t6 c = search needs
-
-value-at-requires : tie.Need-value-at-requires Inv-loop μ-loop
-value-at-requires c κs = search needs
 
 returns : tie.Need-returns Inv-loop μ-loop
 unfolding all-ones free-from
@@ -48,12 +36,6 @@ returns c =
     let turn = place-down p (at .loop .k) (omega arith) (at .loop .inv .0) in
     let used = rw (value .value-at .ensures) at (ne-eqb _ _ (c .if1 .taken)) in
     sym (last-found all-ones (places p) (at .loop .k) turn (at .loop .inv .1) (omega arith) used)
-
-sub-k : tie.Need-sub-k Inv-loop μ-loop
-sub-k c = search needs
-
-loop-less : tie.Need-loop-less Inv-loop μ-loop
-loop-less c = search needs
 
 loop-again : tie.Need-loop-again Inv-loop μ-loop
 unfolding all-ones
@@ -79,13 +61,13 @@ free-place-spec =
     (tie.spec
     Inv-loop
     μ-loop
-    place-offset-requires
-    place-count-requires
+    (λ c κs. search needs)
+    (λ c κs. search needs)
     loop-holds
-    sub-t6
-    value-at-requires
+    (λ c. search needs)
+    (λ c κs. search needs)
     returns
-    sub-k
-    loop-less
+    (λ c. search needs)
+    (λ c. search needs)
     loop-again
     returns-2)

@@ -48,12 +48,6 @@ returns c =
     ∙ member-here (a .v) (place-turn (a .p .now) (at .loop .k) (omega (arith, free .within)))
     (c .if1 .taken ∙ value .place-value .ensures))
 
-add-k-2 : tie.Need-add-k-2 Inv-loop μ-loop
-add-k-2 c = search needs
-
-loop-less : tie.Need-loop-less Inv-loop μ-loop
-loop-less c = search needs
-
 loop-again : tie.Need-loop-again Inv-loop μ-loop
 loop-again c =
     let value = c .before in
@@ -87,7 +81,7 @@ held-above-spec =
     loop-holds
     place-value-requires
     returns
-    add-k-2
-    loop-less
+    (λ c. search needs)
+    (λ c. search needs)
     loop-again
     returns-2)

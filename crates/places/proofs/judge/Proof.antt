@@ -22,12 +22,6 @@ returns-2 : tie.Need-returns-2
 unfolding judged all-ones all-zeros
 returns-2 c = rw (ne-eqb _ _ (c .before .if1 .left), eq-eqb _ _ (c .if2 .taken))
 
-find-slot-requires : tie.Need-find-slot-requires
-find-slot-requires c κs = search needs
-
-slot-at-requires : tie.Need-slot-at-requires
-slot-at-requires c κs = search needs
-
 returns-3 : tie.Need-returns-3
 unfolding judged all-ones all-zeros live-or starts
 returns-3 c =
@@ -72,4 +66,4 @@ returns-5 c = rw (not-found (c .before), ne-eqb _ _ (c .if4 .left))
 pub judge-spec : {M : Type 1} → statement M
 judge-spec =
     tie.close
-    (tie.spec returns returns-2 find-slot-requires slot-at-requires returns-3 returns-4 returns-5)
+    (tie.spec returns returns-2 (λ c κs. search needs) (λ c κs. search needs) returns-3 returns-4 returns-5)

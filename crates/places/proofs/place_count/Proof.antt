@@ -4,12 +4,9 @@ use Rattle.rules.specs.Pointers.{place-count}
 use Rattle.places.proofs.place_count.Statement.{statement}
 use Rattle.places.proofs.place_count.Tie as tie
 
-le32-requires : tie.Need-le32-requires
-le32-requires c κs = search needs
-
 returns : tie.Need-returns
 unfolding place-count
 returns c = c .le32 .ensures .0
 
 pub place-count-spec : {M : Type 1} → statement M
-place-count-spec = tie.close (tie.spec le32-requires returns)
+place-count-spec = tie.close (tie.spec (λ c κs. search needs) returns)

@@ -4,12 +4,9 @@ use Rattle.rules.specs.Pointers.{place-offset}
 use Rattle.places.proofs.place_offset.Statement.{statement}
 use Rattle.places.proofs.place_offset.Tie as tie
 
-le32-requires : tie.Need-le32-requires
-le32-requires c κs = search needs
-
 returns : tie.Need-returns
 unfolding place-offset
 returns c = c .le32 .ensures .0
 
 pub place-offset-spec : {M : Type 1} → statement M
-place-offset-spec = tie.close (tie.spec le32-requires returns)
+place-offset-spec = tie.close (tie.spec (λ c κs. search needs) returns)

@@ -10,15 +10,6 @@ use Rattle.reading.proofs.Opening.{was-viewed, was-refused, opened, has
 use Rattle.reading.proofs.order_list.Statement.{statement}
 use Rattle.reading.proofs.order_list.Tie as tie
 
-view-requires : tie.Need-view-requires
-view-requires c κs = search needs
-
-enum-known-seen : tie.Need-enum-known-seen
-enum-known-seen c = search needs
-
-enum-known-seen-2 : tie.Need-enum-known-seen-2
-enum-known-seen-2 c = search needs
-
 block-at-requires : tie.Need-block-at-requires
 block-at-requires c κs =
     let called = c .before .before .before in
@@ -43,9 +34,6 @@ returns c =
     let e = was-refused _ _ (called .view .ensures) (c .before .seen .given .1) in
     (rw e, rw e)
 
-same-length : tie.Need-same-length
-same-length c = search needs
-
 returns-2 : tie.Need-returns-2
 unfolding order-list boot-order _>>=_
 returns-2 c =
@@ -62,12 +50,12 @@ pub order-list-spec : {M : Type 1} → statement M
 order-list-spec =
     tie.close
     (tie.spec
-    view-requires
-    enum-known-seen
-    enum-known-seen-2
+    (λ c κs. search needs)
+    (λ c. search needs)
+    (λ c. search needs)
     block-at-requires
     block-at-requires-2
     list-order-requires
     returns
-    same-length
+    (λ c. search needs)
     returns-2)

@@ -8,22 +8,10 @@ use Rattle.reading.proofs.Opening.{was-viewed, was-refused, opened, has
 use Rattle.reading.proofs.slot_count.Statement.{statement}
 use Rattle.reading.proofs.slot_count.Tie as tie
 
-view-requires : tie.Need-view-requires
-view-requires c κs = search needs
-
-enum-known-seen : tie.Need-enum-known-seen
-enum-known-seen c = search needs
-
-enum-known-seen-2 : tie.Need-enum-known-seen-2
-enum-known-seen-2 c = search needs
-
 block-at-requires : tie.Need-block-at-requires
 block-at-requires c κs =
     let called = c .before .before .before in
     opened _ _ (called .view .ensures) (c .before .seen2 .given .1) .table-inside
-
-entry-count-requires : tie.Need-entry-count-requires
-entry-count-requires c κs = search needs
 
 count-slots-requires : tie.Need-count-slots-requires
 count-slots-requires c κs =
@@ -55,11 +43,11 @@ pub slot-count-spec : {M : Type 1} → statement M
 slot-count-spec =
     tie.close
     (tie.spec
-    view-requires
-    enum-known-seen
-    enum-known-seen-2
+    (λ c κs. search needs)
+    (λ c. search needs)
+    (λ c. search needs)
     block-at-requires
-    entry-count-requires
+    (λ c κs. search needs)
     count-slots-requires
     returns
     returns-2)

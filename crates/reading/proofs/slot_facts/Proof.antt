@@ -9,22 +9,10 @@ use Rattle.reading.proofs.Opening.{was-viewed, was-refused, opened, has
 use Rattle.reading.proofs.slot_facts.Statement.{statement}
 use Rattle.reading.proofs.slot_facts.Tie as tie
 
-view-requires : tie.Need-view-requires
-view-requires c κs = search needs
-
-enum-known-seen : tie.Need-enum-known-seen
-enum-known-seen c = search needs
-
-enum-known-seen-2 : tie.Need-enum-known-seen-2
-enum-known-seen-2 c = search needs
-
 block-at-requires : tie.Need-block-at-requires
 block-at-requires c κs =
     let called = c .before .before .before in
     opened _ _ (called .view .ensures) (c .before .seen2 .given .1) .table-inside
-
-entry-count-requires : tie.Need-entry-count-requires
-entry-count-requires c κs = search needs
 
 facts-in-requires : tie.Need-facts-in-requires
 facts-in-requires c κs =
@@ -56,11 +44,11 @@ pub slot-facts-spec : {M : Type 1} → statement M
 slot-facts-spec =
     tie.close
     (tie.spec
-    view-requires
-    enum-known-seen
-    enum-known-seen-2
+    (λ c κs. search needs)
+    (λ c. search needs)
+    (λ c. search needs)
     block-at-requires
-    entry-count-requires
+    (λ c κs. search needs)
     facts-in-requires
     returns
     returns-2)

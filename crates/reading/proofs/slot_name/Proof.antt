@@ -11,25 +11,13 @@ use Rattle.reading.proofs.Opening.{no-table, table-of-view, opened, has
 use Rattle.reading.proofs.slot_name.Statement.{statement}
 use Rattle.reading.proofs.slot_name.Tie as tie
 
-view-requires : tie.Need-view-requires
-view-requires c κs = search needs
-
 enum-told : tie.Need-enum-told
 enum-told c = search needs
-
-slice-aggregate-result : tie.Need-slice-aggregate-result
-slice-aggregate-result c = search needs
-
-enum-known-seen : tie.Need-enum-known-seen
-enum-known-seen c = search needs
 
 block-at-requires : tie.Need-block-at-requires
 block-at-requires c κs =
     let called = c .before .before .before in
     opened _ _ (called .view .ensures) (c .before .seen .given .1) .table-inside
-
-entry-count-requires : tie.Need-entry-count-requires
-entry-count-requires c κs = search needs
 
 name-in-requires : tie.Need-name-in-requires
 name-in-requires c κs =
@@ -62,12 +50,12 @@ pub slot-name-spec : {M : Type 1} → statement M
 slot-name-spec =
     tie.close
     (tie.spec
-    view-requires
+    (λ c κs. search needs)
     enum-told
-    slice-aggregate-result
-    enum-known-seen
+    (λ c. search needs)
+    (λ c. search needs)
     block-at-requires
-    entry-count-requires
+    (λ c κs. search needs)
     name-in-requires
     returns
     returns-2)

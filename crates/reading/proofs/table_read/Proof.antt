@@ -5,17 +5,8 @@ use Rattle.reading.proofs.Opening.{no-table, table-of-view, opened}
 use Rattle.reading.proofs.table_read.Statement.{statement}
 use Rattle.reading.proofs.table_read.Tie as tie
 
-view-requires : tie.Need-view-requires
-view-requires c κs = search needs
-
 enum-told : tie.Need-enum-told
 enum-told c = search needs
-
-slice-aggregate-result : tie.Need-slice-aggregate-result
-slice-aggregate-result c = search needs
-
-enum-known-seen : tie.Need-enum-known-seen
-enum-known-seen c = search needs
 
 block-at-requires : tie.Need-block-at-requires
 block-at-requires c κs =
@@ -37,10 +28,10 @@ pub table-read-spec : {M : Type 1} → statement M
 table-read-spec =
     tie.close
     (tie.spec
-    view-requires
+    (λ c κs. search needs)
     enum-told
-    slice-aggregate-result
-    enum-known-seen
+    (λ c. search needs)
+    (λ c. search needs)
     block-at-requires
     returns
     returns-2)

@@ -6,25 +6,10 @@ use borrow.Author.Needs.{needs}
 use Rattle.report.proofs.listing_for.Statement.{statement}
 use Rattle.report.proofs.listing_for.Tie as tie
 
-view-requires : tie.Need-view-requires
-view-requires c κs = search needs
-
-enum-known-seen : tie.Need-enum-known-seen
-enum-known-seen c = search needs
-
-put-refusal-requires : tie.Need-put-refusal-requires
-put-refusal-requires c κs = search needs
-
-enum-known-seen-2 : tie.Need-enum-known-seen-2
-enum-known-seen-2 c = search needs
-
 put-parts-requires : tie.Need-put-parts-requires
 put-parts-requires c κs =
     let seen = c .before .before in
     opened _ _ (seen .before .before .view .ensures) (seen .seen2 .given .1)
-
-same-length : tie.Need-same-length
-same-length c = search needs
 
 returns : tie.Need-returns
 unfolding listing-by listing-for
@@ -33,9 +18,6 @@ returns c =
     let seen = put .before .before .before in
     with-inside
     (rw (was-refused _ _ (seen .before .before .view .ensures) (seen .seen .given .1)) (put .put-refusal .ensures))
-
-same-length-2 : tie.Need-same-length-2
-same-length-2 c = search needs
 
 returns-2 : tie.Need-returns-2
 unfolding listing-by listing-for
@@ -49,12 +31,12 @@ pub listing-for-spec : {M : Type 1} → statement M
 listing-for-spec =
     tie.close
     (tie.spec
-    view-requires
-    enum-known-seen
-    put-refusal-requires
-    enum-known-seen-2
+    (λ c κs. search needs)
+    (λ c. search needs)
+    (λ c κs. search needs)
+    (λ c. search needs)
     put-parts-requires
-    same-length
+    (λ c. search needs)
     returns
-    same-length-2
+    (λ c. search needs)
     returns-2)

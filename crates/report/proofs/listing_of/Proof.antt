@@ -6,23 +6,11 @@ use borrow.Author.Needs.{needs}
 use Rattle.report.proofs.listing_of.Statement.{statement}
 use Rattle.report.proofs.listing_of.Tie as tie
 
-put-refusal-requires : tie.Need-put-refusal-requires
-put-refusal-requires c κs = search needs
-
-same-length : tie.Need-same-length
-same-length c = search needs
-
 returns : tie.Need-returns
 unfolding listing
 returns c =
     let put = c .before .before in
     with-inside (rw (lt-leb _ 65536 (put .before .before .if1 .taken)) (put .put-refusal .ensures))
-
-listing-for-requires : tie.Need-listing-for-requires
-listing-for-requires c κs = search needs
-
-same-length-2 : tie.Need-same-length-2
-same-length-2 c = search needs
 
 returns-2 : tie.Need-returns-2
 unfolding listing listing-setting
@@ -34,9 +22,9 @@ pub listing-of-spec : {M : Type 1} → statement M
 listing-of-spec =
     tie.close
     (tie.spec
-    put-refusal-requires
-    same-length
+    (λ c κs. search needs)
+    (λ c. search needs)
     returns
-    listing-for-requires
-    same-length-2
+    (λ c κs. search needs)
+    (λ c. search needs)
     returns-2)

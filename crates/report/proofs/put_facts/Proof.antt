@@ -6,42 +6,12 @@ use borrow.Author.Needs.{needs}
 use Rattle.report.proofs.put_facts.Statement.{statement}
 use Rattle.report.proofs.put_facts.Tie as tie
 
-slot-facts-requires : tie.Need-slot-facts-requires
-slot-facts-requires c κs = search needs
-
 enum-told : tie.Need-enum-told
 enum-told c = search needs
-
-put-byte-requires : tie.Need-put-byte-requires
-put-byte-requires c κs = search needs
-
-enum-known-known : tie.Need-enum-known-known
-enum-known-known c = search needs
-
-put-byte-requires-2 : tie.Need-put-byte-requires-2
-put-byte-requires-2 c κs = search needs
-
-put-decimal-requires : tie.Need-put-decimal-requires
-put-decimal-requires c κs = search needs
-
-put-byte-requires-3 : tie.Need-put-byte-requires-3
-put-byte-requires-3 c κs = search needs
-
-put-decimal-requires-2 : tie.Need-put-decimal-requires-2
-put-decimal-requires-2 c κs = search needs
-
-put-byte-requires-4 : tie.Need-put-byte-requires-4
-put-byte-requires-4 c κs = search needs
-
-same-length : tie.Need-same-length
-same-length c = search needs
 
 returns : tie.Need-returns
 unfolding facts-text told known
 returns c = rw (← c .before .before .before .before .before .before .slot-facts .ensures, c .before .before .before .before .enum-told .given .1) (c .before .before .put-byte .ensures)
-
-same-length-2 : tie.Need-same-length-2
-same-length-2 c = search needs
 
 returns-2 : tie.Need-returns-2
 unfolding facts-text told known
@@ -63,16 +33,16 @@ pub put-facts-spec : {M : Type 1} → statement M
 put-facts-spec =
     tie.close
     (tie.spec
-    slot-facts-requires
+    (λ c κs. search needs)
     enum-told
-    put-byte-requires
-    enum-known-known
-    put-byte-requires-2
-    put-decimal-requires
-    put-byte-requires-3
-    put-decimal-requires-2
-    put-byte-requires-4
-    same-length
+    (λ c κs. search needs)
+    (λ c. search needs)
+    (λ c κs. search needs)
+    (λ c κs. search needs)
+    (λ c κs. search needs)
+    (λ c κs. search needs)
+    (λ c κs. search needs)
+    (λ c. search needs)
     returns
-    same-length-2
+    (λ c. search needs)
     returns-2)

@@ -11,12 +11,6 @@ use borrow.Author.Needs.{needs}
 use Rattle.report.proofs.put_parts.Statement.{statement}
 use Rattle.report.proofs.put_parts.Tie as tie
 
-block-at-requires : tie.Need-block-at-requires
-block-at-requires c κs = search needs
-
-block-at-requires-2 : tie.Need-block-at-requires-2
-block-at-requires-2 c κs = search needs
-
 rows-of-requires : tie.Need-rows-of-requires
 rows-of-requires c κs =
     let table = c .before in
@@ -26,9 +20,6 @@ places-of-requires : tie.Need-places-of-requires
 places-of-requires c κs =
     let pointers = c .before in
     has-pointers (pointers .before .before .before .before .pre) _ (pointers .block-at2 .ensures)
-
-slice-aggregate-write-order : tie.Need-slice-aggregate-write-order
-slice-aggregate-write-order c = search needs
 
 write-order-requires : tie.Need-write-order-requires
 write-order-requires c κs =
@@ -40,15 +31,6 @@ write-order-requires c κs =
       walked l (table .block-at .ensures) (pointers .block-at2 .ensures) (rows .rows-of .ensures) (places .places-of .ensures),
       order-has-room l (table .block-at .ensures) (pointers .block-at2 .ensures),
     )
-
-slice-aggregate-put-bytes : tie.Need-slice-aggregate-put-bytes
-slice-aggregate-put-bytes c = search needs
-
-put-bytes-requires : tie.Need-put-bytes-requires
-put-bytes-requires c κs = search needs
-
-slice-aggregate-put-lines : tie.Need-slice-aggregate-put-lines
-slice-aggregate-put-lines c = search needs
 
 put-lines-requires : tie.Need-put-lines-requires
 put-lines-requires c κs =
@@ -66,9 +48,6 @@ put-dead-requires c κs =
     let table = pointers .before in
     walked (table .before .before .before .pre) (table .block-at .ensures) (pointers .block-at2 .ensures)
     (rows .rows-of .ensures) (places .places-of .ensures)
-
-same-length : tie.Need-same-length
-same-length c = search needs
 
 returns : tie.Need-returns
 unfolding parts header boot-order
@@ -92,16 +71,16 @@ pub put-parts-spec : {M : Type 1} → statement M
 put-parts-spec =
     tie.close
     (tie.spec
-    block-at-requires
-    block-at-requires-2
+    (λ c κs. search needs)
+    (λ c κs. search needs)
     rows-of-requires
     places-of-requires
-    slice-aggregate-write-order
+    (λ c. search needs)
     write-order-requires
-    slice-aggregate-put-bytes
-    put-bytes-requires
-    slice-aggregate-put-lines
+    (λ c. search needs)
+    (λ c κs. search needs)
+    (λ c. search needs)
     put-lines-requires
     put-dead-requires
-    same-length
+    (λ c. search needs)
     returns)

@@ -1,46 +1,20 @@
--- Pointer blocks of any shape: which pairs of offset and count stand, in numbers, and two copies of different shape.
--- Such copies disagree even where both stand: enable, disable and rename are refused 6, and repair rewrites the copy that
--- is not read with the bytes of the other. Assumes nothing.
+-- Two pointer blocks of different shape. They disagree even where both stand: enable, disable and rename are refused 6,
+-- and repair rewrites the copy that is not read with the bytes of the other. Assumes nothing.
 use mathlib.Core.Path.{_≡_, refl, ap}
 use mathlib.Core.Bool.{Bool, true, false, cond, _&&_}
 use mathlib.Core.List.{List}
 use Prim.Native.Nat.{ℕ}
 use lib.Dec.{eqb}
 use Rattle.rules.specs.Lists.{same}
-use Rattle.rules.specs.Bytes.{block, multiple}
+use Rattle.rules.specs.Bytes.{block}
 use Rattle.rules.specs.Answers.{unless, refused, numbered}
-use Rattle.rules.specs.Pointers.{place-offset, place-count, offset-right, fits-room, pointers-stand}
+use Rattle.rules.specs.Pointers.{place-offset, place-count, pointers-stand}
 use Rattle.rules.specs.Copies.{pair-agrees, tables-agree, pointers-agree, agree-by}
 use Rattle.rules.specs.Steps.{rewrite}
 use Rattle.rules.specs.Commands.{enable, disable, rename, repair-pair, job}
 use Rattle.rules.specs.declared.Setting.{Setting}
 use Rattle.rules.specs.declared.View.{View}
 use Rattle.rules.proofs.Lists.Tests.{by-cases, same-true}
-
--- ---- in numbers
-
-pub offsets : (offset-right 0x20 ≡ true)
-    × (offset-right 4088 ≡ true)
-    × (offset-right 0x18 ≡ false)
-    × (offset-right 4096 ≡ false)
-    × (offset-right 0x24 ≡ false)
-    × (offset-right 0xFFFFFFF8 ≡ false)
-unfolding offset-right multiple
-offsets = (refl, refl, refl, refl, refl, refl)
-
-pub counts : (fits-room 0x20 508 ≡ true)
-    × (fits-room 0x20 509 ≡ false)
-    × (fits-room 0x28 507 ≡ true)
-    × (fits-room 0x28 508 ≡ false)
-    × (fits-room 4088 1 ≡ true)
-    × (fits-room 4088 2 ≡ false)
-    × (fits-room 0x20 0 ≡ false)
-    × (fits-room 0x20 0xFFFFFFFF ≡ false)
-    × (fits-room 0xFFFFFFF8 1 ≡ false)
-unfolding fits-room
-counts = (refl, refl, refl, refl, refl, refl, refl, refl, refl)
-
--- ---- two copies of different shape
 
 module _ (s : Setting) (img : List ℕ) (v : View) where
   abbrev p0 : List ℕ

@@ -12,12 +12,9 @@ returns : tie.Need-returns
 unfolding member initials
 returns c = rw (List·getD-eq-default (c .before .args .name .now) 0 {n = 0} (omega arith))
 
-shared-slice-read-first : tie.Need-shared-slice-read-first
-shared-slice-read-first c = search needs
-
 returns-2 : tie.Need-returns-2
 unfolding member initials
 returns-2 c = simp (or-assoc, or-with-false)
 
 pub begins-fixed-spec : {M : Type 1} → statement M
-begins-fixed-spec = tie.close (tie.spec returns shared-slice-read-first returns-2)
+begins-fixed-spec = tie.close (tie.spec returns (λ c. search needs) returns-2)

@@ -5,17 +5,11 @@ use Rattle.walks.specs.Entries.{slot-from}
 use Rattle.slots.proofs.is_slot_from.Statement.{statement}
 use Rattle.slots.proofs.is_slot_from.Tie as tie
 
-entry-start-requires : tie.Need-entry-start-requires
-entry-start-requires c κs = search needs
-
 returns : tie.Need-returns
 unfolding slot-from
 returns c =
     let found = c .before .entry-start in
     rw (← found .ensures, ne-eqb (found .result) (c .before .before .before .args .start) (c .if1 .taken))
-
-is-slot-requires : tie.Need-is-slot-requires
-is-slot-requires c κs = search needs
 
 returns-2 : tie.Need-returns-2
 unfolding slot-from
@@ -25,4 +19,4 @@ returns-2 c =
     rw (c .is-slot .ensures, ← found .ensures, eq-eqb (found .result) start (c .before .if1 .left))
 
 pub is-slot-from-spec : {M : Type 1} → statement M
-is-slot-from-spec = tie.close (tie.spec entry-start-requires returns is-slot-requires returns-2)
+is-slot-from-spec = tie.close (tie.spec (λ c κs. search needs) returns (λ c κs. search needs) returns-2)

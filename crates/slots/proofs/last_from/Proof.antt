@@ -26,12 +26,6 @@ loop-holds c =
     let a = c .before .args in
     (omega arith, all-over is-slot (entries-end (a .n) (a .n) (a .table .now) (omega arith)))
 
-sub-t5 : tie.Need-sub-t5 Inv-loop μ-loop
-sub-t5 c = search needs
-
-is-slot-requires : tie.Need-is-slot-requires Inv-loop μ-loop
-is-slot-requires c κs = search needs
-
 returns : tie.Need-returns Inv-loop μ-loop
 returns c =
     let at = c .before .before .before in
@@ -40,12 +34,6 @@ returns c =
     let turn = entries-down (a .n) i (a .table .now) (omega arith) (at .loop .inv .0) in
     let fails = failed (c .before .is-slot .ensures) (c .if1 .taken) in
     (sym (last-found is-slot (rows (a .n) (a .table .now)) i turn (at .loop .inv .1) (omega arith) fails), omega arith)
-
-sub-i : tie.Need-sub-i Inv-loop μ-loop
-sub-i c = search needs
-
-loop-less : tie.Need-loop-less Inv-loop μ-loop
-loop-less c = search needs
 
 loop-again : tie.Need-loop-again Inv-loop μ-loop
 loop-again c =
@@ -70,10 +58,10 @@ last-from-spec =
     Inv-loop
     μ-loop
     loop-holds
-    sub-t5
-    is-slot-requires
+    (λ c. search needs)
+    (λ c κs. search needs)
     returns
-    sub-i
-    loop-less
+    (λ c. search needs)
+    (λ c. search needs)
     loop-again
     returns-2)

@@ -12,12 +12,6 @@ use borrow.Author.Needs.{needs}
 use Rattle.slots.proofs.row_of.Statement.{statement}
 use Rattle.slots.proofs.row_of.Tie as tie
 
-cast-number : tie.Need-cast-number
-cast-number c = search needs
-
-slot-total-requires : tie.Need-slot-total-requires
-slot-total-requires c κs = search needs
-
 sub-further : tie.Need-sub-further
 sub-further c =
     let total = c .before .before .slot-total .result in
@@ -48,9 +42,6 @@ add-t10 c =
 returns : tie.Need-returns
 returns c = (sym (at-end c .0), omega (arith, at-end c .1))
 
-slot-row-requires : tie.Need-slot-row-requires
-slot-row-requires c κs = search needs
-
 returns-2 : tie.Need-returns-2
 returns-2 c =
     let start = c .before .before .before .before .before .before in
@@ -61,10 +52,10 @@ pub row-of-spec : {M : Type 1} → statement M
 row-of-spec =
     tie.close
     (tie.spec
-    cast-number
-    slot-total-requires
+    (λ c. search needs)
+    (λ c κs. search needs)
     sub-further
     add-t10
     returns
-    slot-row-requires
+    (λ c κs. search needs)
     returns-2)

@@ -4,15 +4,6 @@ use Rattle.slots.proofs.RowsOf.{rows-made}
 use Rattle.slots.proofs.rows_of.Statement.{statement}
 use Rattle.slots.proofs.rows_of.Tie as tie
 
-entry-count-requires : tie.Need-entry-count-requires
-entry-count-requires c κs = search needs
-
-last-from-requires : tie.Need-last-from-requires
-last-from-requires c κs = search needs
-
-count-slots-requires : tie.Need-count-slots-requires
-count-slots-requires c κs = search needs
-
 returns : tie.Need-returns
 returns c =
     let last = c .before .last-from in
@@ -22,4 +13,4 @@ returns c =
 
 pub rows-of-spec : {M : Type 1} → statement M
 rows-of-spec =
-    tie.close (tie.spec entry-count-requires last-from-requires count-slots-requires returns)
+    tie.close (tie.spec (λ c κs. search needs) (λ c κs. search needs) (λ c κs. search needs) returns)

@@ -33,9 +33,6 @@ count-slots-requires c κs =
     let start = c .before .before .before .before in
     record { whole = start .pre .0 .table .whole; few = omega (arith, start .pre .0 .table .few) }
 
-cast-t9 : tie.Need-cast-t9
-cast-t9 c = search needs
-
 returns-2 : tie.Need-returns-2
 returns-2 c =
     let start = c .before .before .before .before .before in
@@ -43,4 +40,4 @@ returns-2 c =
     rw (slots-to (a .table .now) (a .rows) (start .pre .0) (a .e .0) (omega arith)) (c .count-slots .ensures .0)
 
 pub slot-at-spec : {M : Type 1} → statement M
-slot-at-spec = tie.close (tie.spec add-t6 cast-t7 returns count-slots-requires cast-t9 returns-2)
+slot-at-spec = tie.close (tie.spec add-t6 cast-t7 returns count-slots-requires (λ c. search needs) returns-2)

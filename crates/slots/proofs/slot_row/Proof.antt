@@ -22,14 +22,8 @@ Inv-loop table n left₀ i₀ left i = (i ≤ n) × (slot-row (rows n table) lef
 abbrev μ-loop : tie.MeasureT-loop
 μ-loop table n left₀ i₀ left i = n - i
 
-cast-left : tie.Need-cast-left Inv-loop μ-loop
-cast-left c = search needs
-
 loop-holds : tie.Need-loop-holds Inv-loop μ-loop
 loop-holds c = (omega arith, omega arith)
-
-is-slot-requires : tie.Need-is-slot-requires Inv-loop μ-loop
-is-slot-requires c κs = search needs
 
 returns : tie.Need-returns Inv-loop μ-loop
 returns c =
@@ -40,20 +34,11 @@ returns c =
     let is = sym (c .before .is-slot .ensures) ∙ met in
     (omega (arith, slot-row-here (at .loop .left) turn is (eqb-true (at .loop .left) 0 none-left)), omega arith)
 
-one-if-requires : tie.Need-one-if-requires Inv-loop μ-loop
-one-if-requires c κs = search needs
-
 sub-left : tie.Need-sub-left Inv-loop μ-loop
 sub-left c =
     let at = c .before .before .before .before in
     let taken = taken-is-left (c .before .before .is-slot .result) (at .loop .left) (c .before .if1 .left) in
     omega (arith, c .one-if .ensures .0, taken)
-
-add-i : tie.Need-add-i Inv-loop μ-loop
-add-i c = search needs
-
-loop-less : tie.Need-loop-less Inv-loop μ-loop
-loop-less c = search needs
 
 loop-again : tie.Need-loop-again Inv-loop μ-loop
 loop-again c =
@@ -77,13 +62,13 @@ slot-row-spec =
     (tie.spec
     Inv-loop
     μ-loop
-    cast-left
+    (λ c. search needs)
     loop-holds
-    is-slot-requires
+    (λ c κs. search needs)
     returns
-    one-if-requires
+    (λ c κs. search needs)
     sub-left
-    add-i
-    loop-less
+    (λ c. search needs)
+    (λ c. search needs)
     loop-again
     returns-2)

@@ -4,12 +4,9 @@ use Rattle.rules.specs.Table.{count-right}
 use Rattle.table.proofs.count_is_right.Statement.{statement}
 use Rattle.table.proofs.count_is_right.Tie as tie
 
-entry-count-requires : tie.Need-entry-count-requires
-entry-count-requires c κs = search needs
-
 returns : tie.Need-returns
 unfolding count-right
 returns c = rw (c .entry-count .ensures)
 
 pub count-is-right-spec : {M : Type 1} → statement M
-count-is-right-spec = tie.close (tie.spec entry-count-requires returns)
+count-is-right-spec = tie.close (tie.spec (λ c κs. search needs) returns)

@@ -6,24 +6,6 @@ use Rattle.table.proofs.Standing.{rules-3-to-11}
 use Rattle.table.proofs.entries_stand.Statement.{statement}
 use Rattle.table.proofs.entries_stand.Tie as tie
 
-all-keep-requires : tie.Need-all-keep-requires
-all-keep-requires c κs = search needs
-
-all-differ-requires : tie.Need-all-differ-requires
-all-differ-requires c κs = search needs
-
-all-keep-requires-2 : tie.Need-all-keep-requires-2
-all-keep-requires-2 c κs = search needs
-
-all-keep-requires-3 : tie.Need-all-keep-requires-3
-all-keep-requires-3 c κs = search needs
-
-all-are-apart-requires : tie.Need-all-are-apart-requires
-all-are-apart-requires c κs = search needs
-
-six-keep-requires : tie.Need-six-keep-requires
-six-keep-requires c κs = search needs
-
 returns : tie.Need-returns
 unfolding keeps
 returns c =
@@ -43,10 +25,10 @@ pub entries-stand-spec : {M : Type 1} → statement M
 entries-stand-spec =
     tie.close
     (tie.spec
-    all-keep-requires
-    all-differ-requires
-    all-keep-requires-2
-    all-keep-requires-3
-    all-are-apart-requires
-    six-keep-requires
+    (λ c κs. search needs)
+    (λ c κs. search needs)
+    (λ c κs. search needs)
+    (λ c κs. search needs)
+    (λ c κs. search needs)
+    (λ c κs. search needs)
     returns)

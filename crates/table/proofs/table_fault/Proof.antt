@@ -17,12 +17,6 @@ rule1 c = passed (c .before .header-is-right .ensures) (c .if1 .left)
 rule2 : (c : tie.Else2) → count-right (c .before .before .before .before .block-at .result .now) ≡ true
 rule2 c = passed (c .before .count-is-right .ensures) (c .if2 .left)
 
-block-at-requires : tie.Need-block-at-requires
-block-at-requires c κs = search needs
-
-header-is-right-requires : tie.Need-header-is-right-requires
-header-is-right-requires c κs = search needs
-
 returns : tie.Need-returns
 returns c =
     let b = c .before .before in
@@ -30,9 +24,6 @@ returns c =
     rw (← b .block-at .ensures .0)
     (sym (fault-1 (a .setting) (length (a .image .now)) (b .block-at .result .now)
     (failed (c .before .header-is-right .ensures) (c .if1 .taken))))
-
-count-is-right-requires : tie.Need-count-is-right-requires
-count-is-right-requires c κs = search needs
 
 returns-2 : tie.Need-returns-2
 returns-2 c =
@@ -42,9 +33,6 @@ returns-2 c =
     rw (← b .block-at .ensures .0)
     (sym (fault-2 (a .setting) (length (a .image .now)) (b .block-at .result .now) (rule1 c1)
     (failed (c .before .count-is-right .ensures) (c .if2 .taken))))
-
-entry-count-requires : tie.Need-entry-count-requires
-entry-count-requires c κs = search needs
 
 entries-fault-requires : tie.Need-entries-fault-requires
 entries-fault-requires c κs =
@@ -71,11 +59,11 @@ pub table-fault-spec : {M : Type 1} → statement M
 table-fault-spec =
     tie.close
     (tie.spec
-    block-at-requires
-    header-is-right-requires
+    (λ c κs. search needs)
+    (λ c κs. search needs)
     returns
-    count-is-right-requires
+    (λ c κs. search needs)
     returns-2
-    entry-count-requires
+    (λ c κs. search needs)
     entries-fault-requires
     returns-3)

@@ -9,15 +9,6 @@ use Rattle.table.proofs.Standing.{not-standing, standing-by-entries, co
 use Rattle.table.proofs.table_stands.Statement.{statement}
 use Rattle.table.proofs.table_stands.Tie as tie
 
-block-at-requires : tie.Need-block-at-requires
-block-at-requires c κs = search needs
-
-header-is-right-requires : tie.Need-header-is-right-requires
-header-is-right-requires c κs = search needs
-
-count-is-right-requires : tie.Need-count-is-right-requires
-count-is-right-requires c κs = search needs
-
 returns : tie.Need-returns
 returns c =
     let b = c .before .before .before in
@@ -27,9 +18,6 @@ returns c =
     let count = c .before .count-is-right .ensures in
     let wrong = not-standing (b .block-at .result .now) header count s (length (a .image .now)) (c .if1 .taken) in
     rw (← b .block-at .ensures .0) (sym wrong)
-
-entry-count-requires : tie.Need-entry-count-requires
-entry-count-requires c κs = search needs
 
 entries-stand-requires : tie.Need-entries-stand-requires
 entries-stand-requires c κs =
@@ -55,10 +43,10 @@ pub table-stands-spec : {M : Type 1} → statement M
 table-stands-spec =
     tie.close
     (tie.spec
-    block-at-requires
-    header-is-right-requires
-    count-is-right-requires
+    (λ c κs. search needs)
+    (λ c κs. search needs)
+    (λ c κs. search needs)
     returns
-    entry-count-requires
+    (λ c κs. search needs)
     entries-stand-requires
     returns-2)

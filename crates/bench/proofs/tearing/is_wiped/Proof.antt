@@ -4,30 +4,6 @@ use Rattle.bench.specs.Choices.{wipes}
 use Rattle.bench.proofs.tearing.is_wiped.Statement.{statement}
 use Rattle.bench.proofs.tearing.is_wiped.Tie as tie
 
-enum-known-choice : tie.Need-enum-known-choice
-enum-known-choice c = search needs
-
-enum-known-choice-2 : tie.Need-enum-known-choice-2
-enum-known-choice-2 c = search needs
-
-less-requires : tie.Need-less-requires
-less-requires c κs = search needs
-
-enum-known-choice-3 : tie.Need-enum-known-choice-3
-enum-known-choice-3 c = search needs
-
-enum-known-choice-4 : tie.Need-enum-known-choice-4
-enum-known-choice-4 c = search needs
-
-enum-known-choice-5 : tie.Need-enum-known-choice-5
-enum-known-choice-5 c = search needs
-
-enum-known-choice-6 : tie.Need-enum-known-choice-6
-enum-known-choice-6 c = search needs
-
-mixed-requires : tie.Need-mixed-requires
-mixed-requires c κs = search needs
-
 returns : tie.Need-returns
 unfolding wipes
 returns c = rw (c .before .choice .given .1)
@@ -56,14 +32,14 @@ pub is-wiped-spec : {M : Type 1} → statement M
 is-wiped-spec =
     tie.close
     (tie.spec
-    enum-known-choice
-    enum-known-choice-2
-    less-requires
-    enum-known-choice-3
-    enum-known-choice-4
-    enum-known-choice-5
-    enum-known-choice-6
-    mixed-requires
+    (λ c. search needs)
+    (λ c. search needs)
+    (λ c κs. search needs)
+    (λ c. search needs)
+    (λ c. search needs)
+    (λ c. search needs)
+    (λ c. search needs)
+    (λ c κs. search needs)
     returns
     returns-2
     returns-3

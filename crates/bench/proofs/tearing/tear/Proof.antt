@@ -22,39 +22,12 @@ abbrev μ-loop : tie.MeasureT-loop
 returns : tie.Need-returns Inv-loop μ-loop
 returns c = not-torn _ _ _ _ (omega arith)
 
-sub-if2 : tie.Need-sub-if2 Inv-loop μ-loop
-sub-if2 c = search needs
-
 returns-2 : tie.Need-returns-2 Inv-loop μ-loop
 returns-2 c = not-torn _ _ _ _ (omega arith)
 
 loop-holds : tie.Need-loop-holds Inv-loop μ-loop
 loop-holds c = let a = c .before .before .before .args in
     (omega arith, (omega arith, (refl, no-turn (a .at) (a .size) (a .choice) (a .image .now) (omega arith))))
-
-add-left-of : tie.Need-add-left-of Inv-loop μ-loop
-add-left-of c = search needs
-
-slice-read-left-of : tie.Need-slice-read-left-of Inv-loop μ-loop
-slice-read-left-of c = search needs
-
-is-wiped-requires : tie.Need-is-wiped-requires Inv-loop μ-loop
-is-wiped-requires c κs = search needs
-
-left-of-requires : tie.Need-left-of-requires Inv-loop μ-loop
-left-of-requires c κs = search needs
-
-add-image : tie.Need-add-image Inv-loop μ-loop
-add-image c = search needs
-
-slice-write-image : tie.Need-slice-write-image Inv-loop μ-loop
-slice-write-image c = search needs
-
-add-i : tie.Need-add-i Inv-loop μ-loop
-add-i c = search needs
-
-loop-less : tie.Need-loop-less Inv-loop μ-loop
-loop-less c = search needs
 
 loop-again : tie.Need-loop-again Inv-loop μ-loop
 loop-again c =
@@ -93,17 +66,17 @@ tear-spec =
     Inv-loop
     μ-loop
     returns
-    sub-if2
+    (λ c. search needs)
     returns-2
     loop-holds
-    add-left-of
-    slice-read-left-of
-    is-wiped-requires
-    left-of-requires
-    add-image
-    slice-write-image
-    add-i
-    loop-less
+    (λ c. search needs)
+    (λ c. search needs)
+    (λ c κs. search needs)
+    (λ c κs. search needs)
+    (λ c. search needs)
+    (λ c. search needs)
+    (λ c. search needs)
+    (λ c. search needs)
     loop-again
     same-length
     returns-3)

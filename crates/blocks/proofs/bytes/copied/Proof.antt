@@ -5,12 +5,6 @@ use Rattle.blocks.proofs.Putting.{copied-block}
 use Rattle.blocks.proofs.bytes.copied.Statement.{statement}
 use Rattle.blocks.proofs.bytes.copied.Tie as tie
 
-erased-block-requires : tie.Need-erased-block-requires
-erased-block-requires c κs = search needs
-
-put-requires : tie.Need-put-requires
-put-requires c κs = search needs
-
 returns : tie.Need-returns
 returns c =
     let s = c .before .before .before in
@@ -18,4 +12,4 @@ returns c =
     (c .before .erased-block .ensures)
 
 pub copied-spec : {M : Type 1} → statement M
-copied-spec = tie.close (tie.spec erased-block-requires put-requires returns)
+copied-spec = tie.close (tie.spec (λ c κs. search needs) (λ c κs. search needs) returns)

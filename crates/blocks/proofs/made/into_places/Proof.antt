@@ -4,15 +4,9 @@ use Rattle.blocks.specs.Made.{places-written}
 use Rattle.blocks.proofs.made.into_places.Statement.{statement}
 use Rattle.blocks.proofs.made.into_places.Tie as tie
 
-erased-block-requires : tie.Need-erased-block-requires
-erased-block-requires c κs = search needs
-
-erased-block-requires-2 : tie.Need-erased-block-requires-2
-erased-block-requires-2 c κs = search needs
-
 returns : tie.Need-returns
 unfolding places-written
 returns c = rw (c .before .erased-block .ensures, c .erased-block2 .ensures)
 
 pub into-places-spec : {M : Type 1} → statement M
-into-places-spec = tie.close (tie.spec erased-block-requires erased-block-requires-2 returns)
+into-places-spec = tie.close (tie.spec (λ c κs. search needs) (λ c κs. search needs) returns)

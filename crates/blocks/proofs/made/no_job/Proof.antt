@@ -4,12 +4,9 @@ use Rattle.blocks.specs.Made.{no-job}
 use Rattle.blocks.proofs.made.no_job.Statement.{statement}
 use Rattle.blocks.proofs.made.no_job.Tie as tie
 
-no-steps-requires : tie.Need-no-steps-requires
-no-steps-requires c κs = search needs
-
 returns : tie.Need-returns
 unfolding no-job
 returns c = c .no-steps .ensures
 
 pub no-job-spec : {M : Type 1} → statement M
-no-job-spec = tie.close (tie.spec no-steps-requires returns)
+no-job-spec = tie.close (tie.spec (λ c κs. search needs) returns)

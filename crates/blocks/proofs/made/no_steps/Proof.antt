@@ -5,19 +5,10 @@ use Rattle.blocks.specs.Made.{no-steps}
 use Rattle.blocks.proofs.made.no_steps.Statement.{statement}
 use Rattle.blocks.proofs.made.no_steps.Tie as tie
 
-unwanted-requires : tie.Need-unwanted-requires
-unwanted-requires c κs = search needs
-
-unwanted-requires-2 : tie.Need-unwanted-requires-2
-unwanted-requires-2 c κs = search needs
-
-rewrites-requires : tie.Need-rewrites-requires
-rewrites-requires c κs = search needs
-
 returns : tie.Need-returns
 unfolding no-steps
 returns c = c .rewrites .ensures ∙ rw (c .before .before .unwanted .ensures, c .before .unwanted2 .ensures)
 
 pub no-steps-spec : {M : Type 1} → statement M
 no-steps-spec =
-    tie.close (tie.spec unwanted-requires unwanted-requires-2 rewrites-requires returns)
+    tie.close (tie.spec (λ c κs. search needs) (λ c κs. search needs) (λ c κs. search needs) returns)

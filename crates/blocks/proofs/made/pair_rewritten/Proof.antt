@@ -4,12 +4,9 @@ use Rattle.blocks.specs.Made.{pair-rewritten}
 use Rattle.blocks.proofs.made.pair_rewritten.Statement.{statement}
 use Rattle.blocks.proofs.made.pair_rewritten.Tie as tie
 
-rewrites-requires : tie.Need-rewrites-requires
-rewrites-requires c κs = search needs
-
 returns : tie.Need-returns
 unfolding pair-rewritten
 returns c = c .rewrites .ensures
 
 pub pair-rewritten-spec : {M : Type 1} → statement M
-pair-rewritten-spec = tie.close (tie.spec rewrites-requires returns)
+pair-rewritten-spec = tie.close (tie.spec (λ c κs. search needs) returns)

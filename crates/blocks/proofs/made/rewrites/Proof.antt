@@ -4,15 +4,9 @@ use Rattle.blocks.specs.Made.{rewrites}
 use Rattle.blocks.proofs.made.rewrites.Statement.{statement}
 use Rattle.blocks.proofs.made.rewrites.Tie as tie
 
-kind-of-requires : tie.Need-kind-of-requires
-kind-of-requires c κs = search needs
-
-kind-of-requires-2 : tie.Need-kind-of-requires-2
-kind-of-requires-2 c κs = search needs
-
 returns : tie.Need-returns
 unfolding rewrites
 returns c = rw (c .before .kind-of .ensures, c .kind-of2 .ensures)
 
 pub rewrites-spec : {M : Type 1} → statement M
-rewrites-spec = tie.close (tie.spec kind-of-requires kind-of-requires-2 returns)
+rewrites-spec = tie.close (tie.spec (λ c κs. search needs) (λ c κs. search needs) returns)

@@ -3,11 +3,8 @@ use borrow.Author.Needs.{needs}
 use Rattle.blocks.proofs.made.unwanted.Statement.{statement}
 use Rattle.blocks.proofs.made.unwanted.Tie as tie
 
-erased-block-requires : tie.Need-erased-block-requires
-erased-block-requires c κs = search needs
-
 returns : tie.Need-returns
 returns c = rw (c .erased-block .ensures)
 
 pub unwanted-spec : {M : Type 1} → statement M
-unwanted-spec = tie.close (tie.spec erased-block-requires returns)
+unwanted-spec = tie.close (tie.spec (λ c κs. search needs) returns)

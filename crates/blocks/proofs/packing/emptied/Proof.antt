@@ -25,9 +25,6 @@ mul-end c = omega (arith, inside (c .before .before))
 add-end : tie.Need-add-end
 add-end c = omega (arith, inside (c .before .before))
 
-erased-block-requires : tie.Need-erased-block-requires
-erased-block-requires c κs = search needs
-
 slice-aggregate-put : tie.Need-slice-aggregate-put
 slice-aggregate-put c =
     let start = c .before .before .before .before in
@@ -49,9 +46,6 @@ part-put-start : tie.Need-part-put-start
 part-put-start c =
     let start = c .before .before .before .before .before in
     omega (arith, inside start, start .pre .block .whole)
-
-part-put-end : tie.Need-part-put-end
-part-put-end c = search needs
 
 put-requires-2 : tie.Need-put-requires-2
 put-requires-2 c κs =
@@ -81,11 +75,11 @@ emptied-spec =
     (tie.spec
     mul-end
     add-end
-    erased-block-requires
+    (λ c κs. search needs)
     slice-aggregate-put
     put-requires
     sub-put
     part-put-start
-    part-put-end
+    (λ c. search needs)
     put-requires-2
     returns)

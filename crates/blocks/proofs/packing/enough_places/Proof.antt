@@ -34,9 +34,6 @@ returns c =
       c .if1 .taken,
     )))
 
-order-without-requires : tie.Need-order-without-requires
-order-without-requires c κs = search needs
-
 -- how many other slots the order has
 others-counted : (c : tie.After-order-without)
     → let a = c .before .before .before .before .before .before .args in
@@ -71,4 +68,4 @@ returns-2 c =
     (ap (λ (n : ℕ). leb n (place-count (a .p .now))) (and-the-slot (length o)))
 
 pub enough-places-spec : {M : Type 1} → statement M
-enough-places-spec = tie.close (tie.spec returns order-without-requires add-result returns-2)
+enough-places-spec = tie.close (tie.spec returns (λ c κs. search needs) add-result returns-2)

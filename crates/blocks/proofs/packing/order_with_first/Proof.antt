@@ -41,15 +41,6 @@ whole-block c = search needs
 eight-bytes : (c : tie.After-bytes-of) → length (c .bytes-of .result) ≡ 8
 eight-bytes c = search needs
 
-order-without-requires : tie.Need-order-without-requires
-order-without-requires c κs = search needs
-
-bytes-of-requires : tie.Need-bytes-of-requires
-bytes-of-requires c κs = search needs
-
-slice-aggregate-copy : tie.Need-slice-aggregate-copy
-slice-aggregate-copy c = search needs
-
 mul-copy : tie.Need-mul-copy
 mul-copy c =
     let at-order-without = c .before .before .before .before in
@@ -70,9 +61,6 @@ add-copy c =
       places-fit (s .args .p .now) (s .pre .0 .pointers .block .stands) .in-block,
       offset-is (s .args .p .now) (s .args .places) (s .pre .0 .pointers),
     )
-
-slice-aggregate-copy-2 : tie.Need-slice-aggregate-copy-2
-slice-aggregate-copy-2 c = search needs
 
 copy-requires : tie.Need-copy-requires
 copy-requires c κs =
@@ -112,11 +100,11 @@ pub order-with-first-spec : {M : Type 1} → statement M
 order-with-first-spec =
     tie.close
     (tie.spec
-    order-without-requires
-    bytes-of-requires
-    slice-aggregate-copy
+    (λ c κs. search needs)
+    (λ c κs. search needs)
+    (λ c. search needs)
     mul-copy
     add-copy
-    slice-aggregate-copy-2
+    (λ c. search needs)
     copy-requires
     returns)

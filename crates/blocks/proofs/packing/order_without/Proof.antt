@@ -19,9 +19,6 @@ in-front c =
     front-of-row _ _ (c .write-order .last .1 .1 .1 .1 .0) (c .write-order .result) (c .write-order .ensures .0)
     (c .write-order .ensures .1)
 
-slice-aggregate-write-order : tie.Need-slice-aggregate-write-order
-slice-aggregate-write-order c = search needs
-
 write-order-requires : tie.Need-write-order-requires
 unfolding order-by
 write-order-requires c κs =
@@ -68,7 +65,7 @@ pub order-without-spec : {M : Type 1} → statement M
 order-without-spec =
     tie.close
     (tie.spec
-    slice-aggregate-write-order
+    (λ c. search needs)
     write-order-requires
     array-share-prefix-row
     slice-aggregate-pack-without

@@ -27,9 +27,6 @@ abbrev μ-loop : tie.MeasureT-loop
 eight-bytes : (c : tie.After-bytes-of Inv-loop μ-loop) → length (c .bytes-of .result) ≡ 8
 eight-bytes c = search needs
 
-emptied-requires : tie.Need-emptied-requires Inv-loop μ-loop
-emptied-requires c κs = search needs
-
 loop-holds : tie.Need-loop-holds Inv-loop μ-loop
 loop-holds c =
     let s = c .before .before .before .before in
@@ -39,29 +36,11 @@ loop-holds c =
       (rw none (c .emptied .ensures), rw none refl),
     )
 
-sub-i : tie.Need-sub-i Inv-loop μ-loop
-sub-i c = search needs
-
-mul-s : tie.Need-mul-s Inv-loop μ-loop
-mul-s c = search needs
-
-shared-slice-read-s : tie.Need-shared-slice-read-s Inv-loop μ-loop
-shared-slice-read-s c = search needs
-
 slot-start-requires : tie.Need-slot-start-requires Inv-loop μ-loop
 slot-start-requires c κs =
     let at = c .before .before .before .before in
     let s = at .before .before .before .before .before in
     (s .pre .0 .table, s .pre .1 .below (at .loop .i - 1) (omega arith))
-
-bytes-of-requires : tie.Need-bytes-of-requires Inv-loop μ-loop
-bytes-of-requires c κs = search needs
-
-slice-aggregate-copy : tie.Need-slice-aggregate-copy Inv-loop μ-loop
-slice-aggregate-copy c = search needs
-
-mul-copy : tie.Need-mul-copy Inv-loop μ-loop
-mul-copy c = search needs
 
 add-copy : tie.Need-add-copy Inv-loop μ-loop
 add-copy c =
@@ -73,9 +52,6 @@ add-copy c =
       s .pre .1 .few,
       offset-is (s .args .p .now) (s .args .places) (s .pre .0 .pointers),
     )
-
-slice-aggregate-copy-2 : tie.Need-slice-aggregate-copy-2 Inv-loop μ-loop
-slice-aggregate-copy-2 c = search needs
 
 copy-requires : tie.Need-copy-requires Inv-loop μ-loop
 copy-requires c κs =
@@ -92,12 +68,6 @@ copy-requires c κs =
       at .loop .inv .0,
       eight-bytes (c .before .before),
     )
-
-add-count : tie.Need-add-count Inv-loop μ-loop
-add-count c = search needs
-
-loop-less : tie.Need-loop-less Inv-loop μ-loop
-loop-less c = search needs
 
 loop-again : tie.Need-loop-again Inv-loop μ-loop
 loop-again c =
@@ -130,9 +100,6 @@ loop-again c =
       ),
     )
 
-loop-less-2 : tie.Need-loop-less-2 Inv-loop μ-loop
-loop-less-2 c = search needs
-
 loop-again-2 : tie.Need-loop-again-2 Inv-loop μ-loop
 loop-again-2 c =
     let at = c .before .before .before .before in
@@ -154,21 +121,21 @@ pack-without-spec =
     (tie.spec
     Inv-loop
     μ-loop
-    emptied-requires
+    (λ c κs. search needs)
     loop-holds
-    sub-i
-    mul-s
-    shared-slice-read-s
+    (λ c. search needs)
+    (λ c. search needs)
+    (λ c. search needs)
     slot-start-requires
-    bytes-of-requires
-    slice-aggregate-copy
-    mul-copy
+    (λ c κs. search needs)
+    (λ c. search needs)
+    (λ c. search needs)
     add-copy
-    slice-aggregate-copy-2
+    (λ c. search needs)
     copy-requires
-    add-count
-    loop-less
+    (λ c. search needs)
+    (λ c. search needs)
     loop-again
-    loop-less-2
+    (λ c. search needs)
     loop-again-2
     returns)

@@ -27,23 +27,11 @@ loop-holds c =
     let free = free-places (a .p .now) (a .places) (s .pre .pointers) in
     (free .within, none-above (starts (a .t .now)) (a .p .now) (a .places .free .0) free)
 
-sub-k : tie.Need-sub-k Inv-loop μ-loop
-sub-k c = search needs
-
 place-value-requires : tie.Need-place-value-requires Inv-loop μ-loop
 place-value-requires c κs =
     let s = c .before .before .before .before in
     let a = s .args in
     (s .pre .pointers, omega (arith, count-is (a .p .now) (a .places) (s .pre .pointers)))
-
-judge-requires : tie.Need-judge-requires Inv-loop μ-loop
-judge-requires c κs = search needs
-
-is-live-requires : tie.Need-is-live-requires Inv-loop μ-loop
-is-live-requires c κs = search needs
-
-gives-requires : tie.Need-gives-requires Inv-loop μ-loop
-gives-requires c κs = search needs
 
 returns : tie.Need-returns Inv-loop μ-loop
 unfolding order-by
@@ -63,9 +51,6 @@ returns c =
     (sym (first-found (starts (a .t .now)) (a .p .now) k (omega arith) (rw same
     (at .loop .inv .1))
     (a .slot .0) live))
-
-loop-less : tie.Need-loop-less Inv-loop μ-loop
-loop-less c = search needs
 
 loop-again : tie.Need-loop-again Inv-loop μ-loop
 loop-again c =
@@ -97,12 +82,12 @@ comes-first-spec =
     Inv-loop
     μ-loop
     loop-holds
-    sub-k
+    (λ c. search needs)
     place-value-requires
-    judge-requires
-    is-live-requires
-    gives-requires
+    (λ c κs. search needs)
+    (λ c κs. search needs)
+    (λ c κs. search needs)
     returns
-    loop-less
+    (λ c. search needs)
     loop-again
     returns-2)

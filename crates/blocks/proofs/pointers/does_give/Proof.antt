@@ -6,9 +6,6 @@ use Rattle.blocks.proofs.Walking.{other-value}
 use Rattle.blocks.proofs.pointers.does_give.Statement.{statement}
 use Rattle.blocks.proofs.pointers.does_give.Tie as tie
 
-place-value-requires : tie.Need-place-value-requires
-place-value-requires c κs = search needs
-
 returns : tie.Need-returns
 returns c =
     let at-place-value = c .before in
@@ -18,12 +15,6 @@ returns c =
     (sym (other-value (starts (a .t .now)) (a .slot .0) (at-place-value .place-value .result) (a .start)
     (s .pre .1) (c .if1 .taken)))
 
-judge-requires : tie.Need-judge-requires
-judge-requires c κs = search needs
-
-gives-requires : tie.Need-gives-requires
-gives-requires c κs = search needs
-
 returns-2 : tie.Need-returns-2
 returns-2 c =
     let at-judge = c .before in
@@ -31,4 +22,4 @@ returns-2 c =
 
 pub does-give-spec : {M : Type 1} → statement M
 does-give-spec =
-    tie.close (tie.spec place-value-requires returns judge-requires gives-requires returns-2)
+    tie.close (tie.spec (λ c κs. search needs) returns (λ c κs. search needs) (λ c κs. search needs) returns-2)

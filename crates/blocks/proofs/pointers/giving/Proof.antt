@@ -31,18 +31,12 @@ loop-holds : tie.Need-loop-holds Inv-loop μ-loop
 unfolding giving places-noted number-bytes
 loop-holds c = (((search needs, search needs), search needs), (refl, refl))
 
-add-next : tie.Need-add-next Inv-loop μ-loop
-add-next c = search needs
-
 does-give-requires : tie.Need-does-give-requires Inv-loop μ-loop
 does-give-requires c κs =
     let s = c .before .before .before .before in
     let a = s .args in
     let h = s .pre .0 .pointers in
     ((s .pre .0, omega (arith, free-places (a .p .now) (a .places) h .within, count-is (a .p .now) (a .places) h)), s .pre .1)
-
-slice-aggregate-note : tie.Need-slice-aggregate-note Inv-loop μ-loop
-slice-aggregate-note c = search needs
 
 note-requires : tie.Need-note-requires Inv-loop μ-loop
 note-requires c κs =
@@ -51,12 +45,6 @@ note-requires c κs =
     let room = places-fit (s .args .p .now) (h .block .stands) .at-most-508 in
     let within = free-places (s .args .p .now) (s .args .places) h .within in
     (search needs, (omega arith, omega arith))
-
-add-met : tie.Need-add-met Inv-loop μ-loop
-add-met c = search needs
-
-loop-less : tie.Need-loop-less Inv-loop μ-loop
-loop-less c = search needs
 
 loop-again : tie.Need-loop-again Inv-loop μ-loop
 loop-again c =
@@ -83,9 +71,6 @@ loop-again c =
             (at-note .note .ensures)),
       ),
     )
-
-loop-less-2 : tie.Need-loop-less-2 Inv-loop μ-loop
-loop-less-2 c = search needs
 
 loop-again-2 : tie.Need-loop-again-2 Inv-loop μ-loop
 loop-again-2 c =
@@ -117,13 +102,13 @@ giving-spec =
     Inv-loop
     μ-loop
     loop-holds
-    add-next
+    (λ c. search needs)
     does-give-requires
-    slice-aggregate-note
+    (λ c. search needs)
     note-requires
-    add-met
-    loop-less
+    (λ c. search needs)
+    (λ c. search needs)
     loop-again
-    loop-less-2
+    (λ c. search needs)
     loop-again-2
     returns)

@@ -7,12 +7,6 @@ use Rattle.blocks.proofs.Noting.{noted-after}
 use Rattle.blocks.proofs.pointers.one_place.Statement.{statement}
 use Rattle.blocks.proofs.pointers.one_place.Tie as tie
 
-slice-aggregate-note : tie.Need-slice-aggregate-note
-slice-aggregate-note c = search needs
-
-note-requires : tie.Need-note-requires
-note-requires c κs = search needs
-
 returns : tie.Need-returns
 unfolding places-noted number-bytes
 returns c =
@@ -22,4 +16,4 @@ returns c =
     rw noted
 
 pub one-place-spec : {M : Type 1} → statement M
-one-place-spec = tie.close (tie.spec slice-aggregate-note note-requires returns)
+one-place-spec = tie.close (tie.spec (λ c. search needs) (λ c κs. search needs) returns)

@@ -4,12 +4,6 @@ use Rattle.blocks.proofs.Naming.{allowed-by-length}
 use Rattle.blocks.proofs.tables.name_allowed.Statement.{statement}
 use Rattle.blocks.proofs.tables.name_allowed.Tie as tie
 
-name-length-requires : tie.Need-name-length-requires
-name-length-requires c κs = search needs
-
-is-fixed-name-requires : tie.Need-is-fixed-name-requires
-is-fixed-name-requires c κs = search needs
-
 returns : tie.Need-returns
 returns c =
     allowed-by-length (c .before .before .before .args .name .now) (c .before .name-length .result)
@@ -17,4 +11,4 @@ returns c =
     (c .before .name-length .ensures .0) (c .is-fixed-name .ensures)
 
 pub name-allowed-spec : {M : Type 1} → statement M
-name-allowed-spec = tie.close (tie.spec name-length-requires is-fixed-name-requires returns)
+name-allowed-spec = tie.close (tie.spec (λ c κs. search needs) (λ c κs. search needs) returns)

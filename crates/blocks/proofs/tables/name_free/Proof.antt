@@ -26,9 +26,6 @@ loop-holds c =
     let a = c .before .before .args in
     free-by-row (rows (a .n) (a .t .now)) (a .e .0) (up-to-zero (a .name .now))
 
-has-name-requires : tie.Need-has-name-requires Inv-loop μ-loop
-has-name-requires c κs = search needs
-
 returns : tie.Need-returns Inv-loop μ-loop
 returns c =
     let at-has-name = c .before in
@@ -39,12 +36,6 @@ returns c =
     let turn = entries-turn (a .n) (at .loop .i) (a .t .now) (omega arith) in
     sym (at .loop .inv
     ∙ rw (other-here named (a .e .0) (at .loop .i) turn (rw (at-has-name .has-name .ensures) at (c .if1 .taken))))
-
-add-i : tie.Need-add-i Inv-loop μ-loop
-add-i c = search needs
-
-loop-less : tie.Need-loop-less Inv-loop μ-loop
-loop-less c = search needs
 
 loop-again : tie.Need-loop-again Inv-loop μ-loop
 loop-again c =
@@ -77,9 +68,9 @@ name-free-spec =
     Inv-loop
     μ-loop
     loop-holds
-    has-name-requires
+    (λ c κs. search needs)
     returns
-    add-i
-    loop-less
+    (λ c. search needs)
+    (λ c. search needs)
     loop-again
     returns-2)

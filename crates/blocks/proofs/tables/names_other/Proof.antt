@@ -4,13 +4,10 @@ use Rattle.blocks.proofs.Naming.{other-start}
 use Rattle.blocks.proofs.tables.names_other.Statement.{statement}
 use Rattle.blocks.proofs.tables.names_other.Tie as tie
 
-find-slot-requires : tie.Need-find-slot-requires
-find-slot-requires c κs = search needs
-
 returns : tie.Need-returns
 returns c =
     let a = c .before .before .before .args in
     other-start (a .v) (a .a) (a .n) (c .before .find-slot .result .0) (a .t .now) (c .before .find-slot .ensures .0)
 
 pub names-other-spec : {M : Type 1} → statement M
-names-other-spec = tie.close (tie.spec find-slot-requires returns)
+names-other-spec = tie.close (tie.spec (λ c κs. search needs) returns)

@@ -20,9 +20,6 @@ counted c =
     let (found, _) = slot-row-found (entries t) (s .args .slot .0) (s .pre .1) in
     omega (arith, found, c .row-of .ensures .0, length-entries t)
 
-row-of-requires : tie.Need-row-of-requires
-row-of-requires c κs = search needs
-
 entry-start-requires : tie.Need-entry-start-requires
 entry-start-requires c κs =
     let s = c .before .before in
@@ -40,4 +37,4 @@ returns c =
     ∙ rw (← here, c .before .row-of .ensures .0) (start-of-slot (entries t) (s .args .slot .0) (s .pre .1))
 
 pub slot-start-spec : {M : Type 1} → statement M
-slot-start-spec = tie.close (tie.spec row-of-requires entry-start-requires returns)
+slot-start-spec = tie.close (tie.spec (λ c κs. search needs) entry-start-requires returns)

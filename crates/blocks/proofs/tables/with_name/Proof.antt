@@ -6,21 +6,6 @@ use Rattle.blocks.proofs.Putting.{named-block}
 use Rattle.blocks.proofs.tables.with_name.Statement.{statement}
 use Rattle.blocks.proofs.tables.with_name.Tie as tie
 
-entry-offset-requires : tie.Need-entry-offset-requires
-entry-offset-requires c κs = search needs
-
-copied-requires : tie.Need-copied-requires
-copied-requires c κs = search needs
-
-slice-aggregate-put : tie.Need-slice-aggregate-put
-slice-aggregate-put c = search needs
-
-put-requires : tie.Need-put-requires
-put-requires c κs = search needs
-
-put-requires-2 : tie.Need-put-requires-2
-put-requires-2 c κs = search needs
-
 returns : tie.Need-returns
 returns c =
     let at-put = c .before in
@@ -38,9 +23,9 @@ pub with-name-spec : {M : Type 1} → statement M
 with-name-spec =
     tie.close
     (tie.spec
-    entry-offset-requires
-    copied-requires
-    slice-aggregate-put
-    put-requires
-    put-requires-2
+    (λ c κs. search needs)
+    (λ c κs. search needs)
+    (λ c. search needs)
+    (λ c κs. search needs)
+    (λ c κs. search needs)
     returns)

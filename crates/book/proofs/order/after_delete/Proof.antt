@@ -13,23 +13,11 @@ use Rattle.book.proofs.order.after_delete.Tie as tie
 whole : (s : tie.Start) → length (s .args .order .row) ≡ room
 whole s = search needs
 
-meant-requires : tie.Need-meant-requires
-meant-requires c κs = search needs
-
-no-slots-requires : tie.Need-no-slots-requires
-no-slots-requires c κs = search needs
-
-slice-aggregate-put-lowered : tie.Need-slice-aggregate-put-lowered
-slice-aggregate-put-lowered c = search needs
-
 array-share-prefix-old : tie.Need-array-share-prefix-old
 array-share-prefix-old c = omega (arith, whole (c .before .before .before .before), c .before .before .meant .ensures)
 
 slice-aggregate-put-lowered-2 : tie.Need-slice-aggregate-put-lowered-2
 slice-aggregate-put-lowered-2 c = sym (length-take-le _ _ (omega (arith, whole (c .before .before .before .before .before), c .before .before .before .meant .ensures)))
-
-put-lowered-requires : tie.Need-put-lowered-requires
-put-lowered-requires c κs = search needs
 
 returns : tie.Need-returns
 unfolding slots-of
@@ -42,10 +30,10 @@ pub after-delete-spec : {M : Type 1} → statement M
 after-delete-spec =
     tie.close
     (tie.spec
-    meant-requires
-    no-slots-requires
-    slice-aggregate-put-lowered
+    (λ c κs. search needs)
+    (λ c κs. search needs)
+    (λ c. search needs)
     array-share-prefix-old
     slice-aggregate-put-lowered-2
-    put-lowered-requires
+    (λ c κs. search needs)
     returns)

@@ -7,9 +7,6 @@ use borrow.Author.Needs.{needs}
 use Rattle.book.proofs.order.lowered.Statement.{statement}
 use Rattle.book.proofs.order.lowered.Tie as tie
 
-sub-t4 : tie.Need-sub-t4
-sub-t4 c = search needs
-
 returns : tie.Need-returns
 unfolding lowered
 returns c =
@@ -23,4 +20,4 @@ returns-2 c =
     sym (rw (le-ltb (a .gone .0) (a .slot .0) (omega arith)))
 
 pub lowered-spec : {M : Type 1} → statement M
-lowered-spec = tie.close (tie.spec sub-t4 returns returns-2)
+lowered-spec = tie.close (tie.spec (λ c. search needs) returns returns-2)

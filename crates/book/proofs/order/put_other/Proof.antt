@@ -8,14 +8,8 @@ use Rattle.book.proofs.order.put_other.Tie as tie
 returns : tie.Need-returns
 returns c = rw (left-out _ _ (c .if1 .taken)) (put-nothing _ _)
 
-put-slot-requires : tie.Need-put-slot-requires
-put-slot-requires c κs = search needs
-
-same-length : tie.Need-same-length
-same-length c = search needs
-
 returns-2 : tie.Need-returns-2
 returns-2 c = rw (not-left-out _ _ (c .before .before .before .before .if1 .left)) (c .before .before .put-slot .ensures)
 
 pub put-other-spec : {M : Type 1} → statement M
-put-other-spec = tie.close (tie.spec returns put-slot-requires same-length returns-2)
+put-other-spec = tie.close (tie.spec returns (λ c κs. search needs) (λ c. search needs) returns-2)

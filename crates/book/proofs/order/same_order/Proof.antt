@@ -16,12 +16,6 @@ whole-a s = search needs
 whole-b : (s : tie.Start) → length (s .args .b .row) ≡ room
 whole-b s = search needs
 
-meant-requires : tie.Need-meant-requires
-meant-requires c κs = search needs
-
-meant-requires-2 : tie.Need-meant-requires-2
-meant-requires-2 c κs = search needs
-
 array-share-prefix-one : tie.Need-array-share-prefix-one
 array-share-prefix-one c = omega (arith, whole-a (c .before .before .before .before), c .before .meant .ensures)
 
@@ -33,9 +27,6 @@ array-share-prefix-other c = omega (arith, whole-b (c .before .before .before .b
 
 slice-aggregate-same-slots-2 : tie.Need-slice-aggregate-same-slots-2
 slice-aggregate-same-slots-2 c = sym (length-take-le _ _ (omega (arith, whole-b (c .before .before .before .before .before .before), c .before .before .meant2 .ensures)))
-
-same-slots-requires : tie.Need-same-slots-requires
-same-slots-requires c κs = search needs
 
 returns : tie.Need-returns
 returns c =
@@ -49,11 +40,11 @@ pub same-order-spec : {M : Type 1} → statement M
 same-order-spec =
     tie.close
     (tie.spec
-    meant-requires
-    meant-requires-2
+    (λ c κs. search needs)
+    (λ c κs. search needs)
     array-share-prefix-one
     slice-aggregate-same-slots
     array-share-prefix-other
     slice-aggregate-same-slots-2
-    same-slots-requires
+    (λ c κs. search needs)
     returns)

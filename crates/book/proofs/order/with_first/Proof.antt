@@ -13,32 +13,14 @@ use Rattle.book.proofs.order.with_first.Tie as tie
 whole : (s : tie.Start) → length (s .args .order .row) ≡ room
 whole s = search needs
 
-meant-requires : tie.Need-meant-requires
-meant-requires c κs = search needs
-
 returns : tie.Need-returns
 returns c = order-too-long (c .before .before .before .args .order) _ _ (whole (c .before .before .before)) (c .before .meant .ensures) (c .if1 .taken)
-
-no-slots-requires : tie.Need-no-slots-requires
-no-slots-requires c κs = search needs
-
-slice-aggregate-put-slot : tie.Need-slice-aggregate-put-slot
-slice-aggregate-put-slot c = search needs
-
-put-slot-requires : tie.Need-put-slot-requires
-put-slot-requires c κs = search needs
-
-slice-aggregate-put-others : tie.Need-slice-aggregate-put-others
-slice-aggregate-put-others c = search needs
 
 array-share-prefix-old : tie.Need-array-share-prefix-old
 array-share-prefix-old c = omega (arith, whole (c .before .before .before .before .before .before .before .before), c .before .before .before .before .before .before .meant .ensures)
 
 slice-aggregate-put-others-2 : tie.Need-slice-aggregate-put-others-2
 slice-aggregate-put-others-2 c = sym (length-take-le _ _ (omega (arith, whole (c .before .before .before .before .before .before .before .before .before), c .before .before .before .before .before .before .before .meant .ensures)))
-
-put-others-requires : tie.Need-put-others-requires
-put-others-requires c κs = search needs
 
 returns-2 : tie.Need-returns-2
 unfolding slots-of
@@ -50,13 +32,13 @@ pub with-first-spec : {M : Type 1} → statement M
 with-first-spec =
     tie.close
     (tie.spec
-    meant-requires
+    (λ c κs. search needs)
     returns
-    no-slots-requires
-    slice-aggregate-put-slot
-    put-slot-requires
-    slice-aggregate-put-others
+    (λ c κs. search needs)
+    (λ c. search needs)
+    (λ c κs. search needs)
+    (λ c. search needs)
     array-share-prefix-old
     slice-aggregate-put-others-2
-    put-others-requires
+    (λ c κs. search needs)
     returns-2)

@@ -13,23 +13,11 @@ use Rattle.book.proofs.order.without.Tie as tie
 whole : (s : tie.Start) → length (s .args .order .row) ≡ room
 whole s = search needs
 
-meant-requires : tie.Need-meant-requires
-meant-requires c κs = search needs
-
-no-slots-requires : tie.Need-no-slots-requires
-no-slots-requires c κs = search needs
-
-slice-aggregate-put-others : tie.Need-slice-aggregate-put-others
-slice-aggregate-put-others c = search needs
-
 array-share-prefix-old : tie.Need-array-share-prefix-old
 array-share-prefix-old c = omega (arith, whole (c .before .before .before .before), c .before .before .meant .ensures)
 
 slice-aggregate-put-others-2 : tie.Need-slice-aggregate-put-others-2
 slice-aggregate-put-others-2 c = sym (length-take-le _ _ (omega (arith, whole (c .before .before .before .before .before), c .before .before .before .meant .ensures)))
-
-put-others-requires : tie.Need-put-others-requires
-put-others-requires c κs = search needs
 
 returns : tie.Need-returns
 unfolding slots-of
@@ -41,10 +29,10 @@ pub without-spec : {M : Type 1} → statement M
 without-spec =
     tie.close
     (tie.spec
-    meant-requires
-    no-slots-requires
-    slice-aggregate-put-others
+    (λ c κs. search needs)
+    (λ c κs. search needs)
+    (λ c. search needs)
     array-share-prefix-old
     slice-aggregate-put-others-2
-    put-others-requires
+    (λ c κs. search needs)
     returns)

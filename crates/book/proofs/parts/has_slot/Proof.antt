@@ -10,26 +10,11 @@ use borrow.Author.Needs.{needs}
 use Rattle.book.proofs.parts.has_slot.Statement.{statement}
 use Rattle.book.proofs.parts.has_slot.Tie as tie
 
-slice-aggregate-entry-count : tie.Need-slice-aggregate-entry-count
-slice-aggregate-entry-count c = search needs
-
-entry-count-requires : tie.Need-entry-count-requires
-entry-count-requires c κs = search needs
-
 returns : tie.Need-returns
 unfolding has-slot
 returns c =
     let t = c .before .before .before .args .t1 in
     sym (rw (lt-leb (entry-count t) most-entries (omega (arith, c .before .entry-count .ensures))))
-
-cast-result : tie.Need-cast-result
-cast-result c = search needs
-
-slice-aggregate-count-slots : tie.Need-slice-aggregate-count-slots
-slice-aggregate-count-slots c = search needs
-
-count-slots-requires : tie.Need-count-slots-requires
-count-slots-requires c κs = search needs
 
 returns-2 : tie.Need-returns-2
 unfolding has-slot slot-there entries
@@ -43,10 +28,10 @@ pub has-slot-spec : {M : Type 1} → statement M
 has-slot-spec =
     tie.close
     (tie.spec
-    slice-aggregate-entry-count
-    entry-count-requires
+    (λ c. search needs)
+    (λ c κs. search needs)
     returns
-    cast-result
-    slice-aggregate-count-slots
-    count-slots-requires
+    (λ c. search needs)
+    (λ c. search needs)
+    (λ c κs. search needs)
     returns-2)

@@ -19,14 +19,8 @@ where-blocks-are c =
     let a = at .before .before .args in
     opened (a .setting) (a .image .now) (at .view .ensures) (c .before .seen .given .1)
 
-view-requires : tie.Need-view-requires
-view-requires c κs = search needs
-
 enum-told : tie.Need-enum-told
 enum-told c = search needs
-
-enum-known-seen : tie.Need-enum-known-seen
-enum-known-seen c = search needs
 
 block-at-requires : tie.Need-block-at-requires
 block-at-requires c κs =
@@ -35,9 +29,6 @@ block-at-requires c κs =
 block-at-requires-2 : tie.Need-block-at-requires-2
 block-at-requires-2 c κs =
     where-blocks-are (c .before) .pointers-inside
-
-entry-count-requires : tie.Need-entry-count-requires
-entry-count-requires c κs = search needs
 
 places-of-requires : tie.Need-places-of-requires
 places-of-requires c κs =
@@ -99,12 +90,12 @@ pub start-for-spec : {M : Type 1} → statement M
 start-for-spec =
     tie.close
     (tie.spec
-    view-requires
+    (λ c κs. search needs)
     enum-told
-    enum-known-seen
+    (λ c. search needs)
     block-at-requires
     block-at-requires-2
-    entry-count-requires
+    (λ c κs. search needs)
     places-of-requires
     lowest-start-requires
     returns

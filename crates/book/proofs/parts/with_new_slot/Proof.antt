@@ -18,15 +18,6 @@ use Rattle.book.proofs.parts.with_new_slot.Tie as tie
 fits : (c : tie.Else1) → has-row (c .before .before .entry-count .result) (c .before .before .before .before .before .args .size) ≡ true
 fits c = passed (c .before .has-row .ensures) (c .if1 .left)
 
-slice-aggregate-entry-count : tie.Need-slice-aggregate-entry-count
-slice-aggregate-entry-count c = search needs
-
-entry-count-requires : tie.Need-entry-count-requires
-entry-count-requires c κs = search needs
-
-has-row-requires : tie.Need-has-row-requires
-has-row-requires c κs = search needs
-
 returns : tie.Need-returns
 returns c =
     let at = c .before .before in
@@ -36,15 +27,6 @@ start-for-requires : tie.Need-start-for-requires
 unfolding has-row
 start-for-requires c κs =
     (and-true (ltb (c .before .before .entry-count .result) most-entries) (size-right (c .before .before .before .before .before .args .size)) (fits c) .1, omega arith)
-
-new-name-requires : tie.Need-new-name-requires
-new-name-requires c κs = search needs
-
-slice-aggregate-with-new-row : tie.Need-slice-aggregate-with-new-row
-slice-aggregate-with-new-row c = search needs
-
-slice-aggregate-with-new-row-2 : tie.Need-slice-aggregate-with-new-row-2
-slice-aggregate-with-new-row-2 c = search needs
 
 with-new-row-requires : tie.Need-with-new-row-requires
 unfolding has-row
@@ -69,13 +51,13 @@ pub with-new-slot-spec : {M : Type 1} → statement M
 with-new-slot-spec =
     tie.close
     (tie.spec
-    slice-aggregate-entry-count
-    entry-count-requires
-    has-row-requires
+    (λ c. search needs)
+    (λ c κs. search needs)
+    (λ c κs. search needs)
     returns
     start-for-requires
-    new-name-requires
-    slice-aggregate-with-new-row
-    slice-aggregate-with-new-row-2
+    (λ c κs. search needs)
+    (λ c. search needs)
+    (λ c. search needs)
     with-new-row-requires
     returns-2)

@@ -25,23 +25,11 @@ there s =
     ltb-true (s .args .slot .0) (length (slots (entries (s .args .t1))))
     (and-true (leb (entry-count (s .args .t1)) most-entries) _ (s .pre) .1)
 
-slice-aggregate-entry-count : tie.Need-slice-aggregate-entry-count
-slice-aggregate-entry-count c = search needs
-
-entry-count-requires : tie.Need-entry-count-requires
-entry-count-requires c κs = search needs
-
-slice-aggregate-slot-row : tie.Need-slice-aggregate-slot-row
-slice-aggregate-slot-row c = search needs
-
 slot-row-requires : tie.Need-slot-row-requires
 slot-row-requires c κs =
     let at = c .before in
     let s = at .before .before in
     record { whole = search needs; few = rw (at .entry-count .ensures) (few s) }
-
-slice-aggregate-without-row : tie.Need-slice-aggregate-without-row
-slice-aggregate-without-row c = search needs
 
 without-row-requires : tie.Need-without-row-requires
 without-row-requires c κs =
@@ -64,10 +52,10 @@ pub without-slot-spec : {M : Type 1} → statement M
 without-slot-spec =
     tie.close
     (tie.spec
-    slice-aggregate-entry-count
-    entry-count-requires
-    slice-aggregate-slot-row
+    (λ c. search needs)
+    (λ c κs. search needs)
+    (λ c. search needs)
     slot-row-requires
-    slice-aggregate-without-row
+    (λ c. search needs)
     without-row-requires
     returns)

@@ -60,12 +60,6 @@ count-of : (c : tie.After-entry-count) {e : Bool}
     (c .before .before .before .before .before .before .before .before .before .args .v .table))) 127 ≡ e
 count-of c h = rw (← c .before .block-at .ensures .0, ← c .entry-count .ensures) h
 
-same-blocks-requires : tie.Need-same-blocks-requires
-same-blocks-requires c κs = search needs
-
-same-blocks-requires-2 : tie.Need-same-blocks-requires-2
-same-blocks-requires-2 c κs = search needs
-
 returns : tie.Need-returns
 unfolding outcome copies-equal unless
 returns c =
@@ -77,9 +71,6 @@ returns c =
     (not-true (at1 .same-blocks .result && at2 .same-blocks2 .result) (c .if1 .taken)))
     refl refl refl refl)
 
-name-allowed-requires : tie.Need-name-allowed-requires
-name-allowed-requires c κs = search needs
-
 returns-2 : tie.Need-returns-2
 unfolding outcome unless
 returns-2 c =
@@ -87,12 +78,6 @@ returns-2 c =
     let a = at-if1 .before .before .before .before .before .args in
     sym (new-asked-by (a .image .now) (a .v) (a .name .now) (a .size) (equal-copies at-if1)
     (failed (c .before .name-allowed .ensures) (c .if2 .taken)) refl refl refl)
-
-block-at-requires : tie.Need-block-at-requires
-block-at-requires c κs = search needs
-
-entry-count-requires : tie.Need-entry-count-requires
-entry-count-requires c κs = search needs
 
 name-free-requires : tie.Need-name-free-requires
 name-free-requires c κs =
@@ -112,9 +97,6 @@ returns-3 c =
     let a = at-if1 .before .before .before .before .before .args in
     sym (new-asked-by (a .image .now) (a .v) (a .name .now) (a .size) (equal-copies at-if1) (right-name at-if2)
     (failed (free-name at-free) (c .if3 .taken)) refl refl)
-
-size-right-requires : tie.Need-size-right-requires
-size-right-requires c κs = search needs
 
 returns-4 : tie.Need-returns-4
 unfolding outcome unless
@@ -163,16 +145,16 @@ pub ask-new-spec : {M : Type 1} → statement M
 ask-new-spec =
     tie.close
     (tie.spec
-    same-blocks-requires
-    same-blocks-requires-2
+    (λ c κs. search needs)
+    (λ c κs. search needs)
     returns
-    name-allowed-requires
+    (λ c κs. search needs)
     returns-2
-    block-at-requires
-    entry-count-requires
+    (λ c κs. search needs)
+    (λ c κs. search needs)
     name-free-requires
     returns-3
-    size-right-requires
+    (λ c κs. search needs)
     returns-4
     returns-5
     returns-6)

@@ -22,12 +22,6 @@ ask-new-requires c κs =
     let s = c .before .before in
     where-blocks-are s
 
-enum-known-asked : tie.Need-enum-known-asked
-enum-known-asked c = search needs
-
-refuse-requires : tie.Need-refuse-requires
-refuse-requires c κs = search needs
-
 enum-told : tie.Need-enum-told
 enum-told c = search needs
 
@@ -40,9 +34,6 @@ block-at-requires-2 : tie.Need-block-at-requires-2
 block-at-requires-2 c κs =
     let s = c .before .before .before .before .before .before in
     where-blocks-are s .pointers-inside
-
-entry-count-requires : tie.Need-entry-count-requires
-entry-count-requires c κs = search needs
 
 places-of-requires : tie.Need-places-of-requires
 places-of-requires c κs =
@@ -78,9 +69,6 @@ lowest-start-requires c κs =
         omega arith,
       ),
     )
-
-refuse-requires-2 : tie.Need-refuse-requires-2
-refuse-requires-2 c κs = search needs
 
 returns : tie.Need-returns
 returns c =
@@ -133,12 +121,6 @@ with-new-row-requires c κs =
       (omega (arith, allowed (a .name .now) named .short), omega arith),
     )
 
-pair-rewritten-requires : tie.Need-pair-rewritten-requires
-pair-rewritten-requires c κs = search needs
-
-begun-requires : tie.Need-begun-requires
-begun-requires c κs = search needs
-
 returns-2 : tie.Need-returns-2
 returns-2 c =
     let at-asked = c .before .before in
@@ -176,20 +158,20 @@ create-by-spec =
     tie.close
     (tie.spec
     ask-new-requires
-    enum-known-asked
-    refuse-requires
+    (λ c. search needs)
+    (λ c κs. search needs)
     enum-told
     block-at-requires
     block-at-requires-2
-    entry-count-requires
+    (λ c κs. search needs)
     places-of-requires
     lowest-start-requires
-    refuse-requires-2
+    (λ c κs. search needs)
     returns
     cast-at0
     cast-at1
     with-new-row-requires
-    pair-rewritten-requires
-    begun-requires
+    (λ c κs. search needs)
+    (λ c κs. search needs)
     returns-2
     returns-3)

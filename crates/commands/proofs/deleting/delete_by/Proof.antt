@@ -49,12 +49,6 @@ ask-slot-requires c κs =
     let s = c .before in
     where-blocks-are s
 
-enum-known-asked : tie.Need-enum-known-asked
-enum-known-asked c = search needs
-
-refuse-requires : tie.Need-refuse-requires
-refuse-requires c κs = search needs
-
 enum-told : tie.Need-enum-told
 enum-told c = search needs
 
@@ -99,9 +93,6 @@ slot-start-requires c κs =
 giving-requires : tie.Need-giving-requires
 giving-requires c κs = (blocks-read (c .before), c .slot-start .ensures)
 
-refuse-requires-2 : tie.Need-refuse-requires-2
-refuse-requires-2 c κs = search needs
-
 returns : tie.Need-returns
 returns c =
     let at-if1 = c .before in
@@ -123,9 +114,6 @@ returns c =
     (delete-refused-43 st img (a .v) (s .pre) (a .slot .0) (at-ask-slot .ask-slot .result)
     (at-ask-slot .ask-slot .ensures) (at-enum-told .enum-told .given .1) t p ks
     (at-block-at .block-at .ensures .0) (at-block-at2 .block-at2 .ensures .0) refl (omega arith))
-
-entry-count-requires : tie.Need-entry-count-requires
-entry-count-requires c κs = search needs
 
 slot-row-requires : tie.Need-slot-row-requires
 slot-row-requires c κs =
@@ -167,12 +155,6 @@ without-row-requires c κs =
           (at-block-at .block-at .ensures .0) (at-entry-count .entry-count .ensures)
           (at-slot-row .slot-row .result .0) (at-slot-row .slot-row .ensures .0),
     )
-
-pair-rewritten-requires : tie.Need-pair-rewritten-requires
-pair-rewritten-requires c κs = search needs
-
-begun-requires : tie.Need-begun-requires
-begun-requires c κs = search needs
 
 returns-2 : tie.Need-returns-2
 returns-2 c =
@@ -221,8 +203,8 @@ delete-by-spec =
     tie.close
     (tie.spec
     ask-slot-requires
-    enum-known-asked
-    refuse-requires
+    (λ c. search needs)
+    (λ c κs. search needs)
     enum-told
     block-at-requires
     block-at-requires-2
@@ -230,14 +212,14 @@ delete-by-spec =
     places-of-requires
     slot-start-requires
     giving-requires
-    refuse-requires-2
+    (λ c κs. search needs)
     returns
-    entry-count-requires
+    (λ c κs. search needs)
     slot-row-requires
     cast-at0
     cast-at1
     without-row-requires
-    pair-rewritten-requires
-    begun-requires
+    (λ c κs. search needs)
+    (λ c κs. search needs)
     returns-2
     returns-3)

@@ -47,12 +47,6 @@ ask-slot-requires c κs =
     let s = c .before in
     where-blocks-are s
 
-enum-known-asked : tie.Need-enum-known-asked
-enum-known-asked c = search needs
-
-refuse-requires : tie.Need-refuse-requires
-refuse-requires c κs = search needs
-
 enum-told : tie.Need-enum-told
 enum-told c = search needs
 
@@ -97,9 +91,6 @@ slot-start-requires c κs =
 giving-requires : tie.Need-giving-requires
 giving-requires c κs = (blocks-read (c .before), c .slot-start .ensures)
 
-refuse-requires-2 : tie.Need-refuse-requires-2
-refuse-requires-2 c κs = search needs
-
 returns : tie.Need-returns
 returns c =
     let at-if1 = c .before in
@@ -137,9 +128,6 @@ disable-job-requires c κs =
     let at-giving = c .before .before .before .before in
     let at-slot-start = at-giving .before in
     ((blocks-read (at-slot-start .before), at-slot-start .slot-start .ensures), at-giving .giving .ensures)
-
-begun-requires : tie.Need-begun-requires
-begun-requires c κs = search needs
 
 returns-2 : tie.Need-returns-2
 returns-2 c =
@@ -183,8 +171,8 @@ disable-by-spec =
     tie.close
     (tie.spec
     ask-slot-requires
-    enum-known-asked
-    refuse-requires
+    (λ c. search needs)
+    (λ c κs. search needs)
     enum-told
     block-at-requires
     block-at-requires-2
@@ -192,11 +180,11 @@ disable-by-spec =
     places-of-requires
     slot-start-requires
     giving-requires
-    refuse-requires-2
+    (λ c κs. search needs)
     returns
     cast-at0
     cast-at1
     disable-job-requires
-    begun-requires
+    (λ c κs. search needs)
     returns-2
     returns-3)

@@ -22,15 +22,6 @@ half-cleared c =
     let s = c .before .before .before in
     rw (← counted-rows (s .args .t .now) (s .args .rows) (s .pre .0 .0 .table)) (c .half-cleared-names .ensures)
 
-half-cleared-names-requires : tie.Need-half-cleared-names-requires
-half-cleared-names-requires c κs = search needs
-
-order-without-requires : tie.Need-order-without-requires
-order-without-requires c κs = search needs
-
-pair-rewritten-requires : tie.Need-pair-rewritten-requires
-pair-rewritten-requires c κs = search needs
-
 returns : tie.Need-returns
 unfolding order-by
 returns c =
@@ -52,12 +43,6 @@ cast-into-places c =
     let h = s .pre .0 .0 .pointers in
     omega (arith, places-fit p (h .block .stands) .in-block, offset-is p (s .args .places) h)
 
-bytes-of-requires : tie.Need-bytes-of-requires
-bytes-of-requires c κs = search needs
-
-into-places-requires : tie.Need-into-places-requires
-into-places-requires c κs = search needs
-
 returns-2 : tie.Need-returns-2
 returns-2 c =
     let at-bytes-of = c .before in
@@ -75,11 +60,11 @@ pub disable-job-spec : {M : Type 1} → statement M
 disable-job-spec =
     tie.close
     (tie.spec
-    half-cleared-names-requires
-    order-without-requires
-    pair-rewritten-requires
+    (λ c κs. search needs)
+    (λ c κs. search needs)
+    (λ c κs. search needs)
     returns
     cast-into-places
-    bytes-of-requires
-    into-places-requires
+    (λ c κs. search needs)
+    (λ c κs. search needs)
     returns-2)

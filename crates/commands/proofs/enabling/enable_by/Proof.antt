@@ -27,12 +27,6 @@ ask-slot-requires c κs =
     let s = c .before in
     where-blocks-are s
 
-enum-known-asked : tie.Need-enum-known-asked
-enum-known-asked c = search needs
-
-refuse-requires : tie.Need-refuse-requires
-refuse-requires c κs = search needs
-
 enum-told : tie.Need-enum-told
 enum-told c = search needs
 
@@ -79,9 +73,6 @@ is-erased-requires c κs =
     (at-ask-slot .ask-slot .ensures) (at-enum-told .enum-told .given .1) (at-block-at .block-at .result .now)
     (at-block-at .block-at .ensures .0) (c .slot-start .result) (c .slot-start .ensures)
 
-refuse-requires-2 : tie.Need-refuse-requires-2
-refuse-requires-2 c κs = search needs
-
 returns : tie.Need-returns
 returns c =
     let at-if1 = c .before in
@@ -126,9 +117,6 @@ blocks-read c =
 
 enough-places-requires : tie.Need-enough-places-requires
 enough-places-requires c κs = (blocks-read c, is-counted (c .before .before .before .before .before .before))
-
-refuse-requires-3 : tie.Need-refuse-requires-3
-refuse-requires-3 c κs = search needs
 
 returns-2 : tie.Need-returns-2
 returns-2 c =
@@ -175,9 +163,6 @@ enable-job-requires c κs =
       at-slot-start .slot-start .ensures,
     )
 
-begun-requires : tie.Need-begun-requires
-begun-requires c κs = search needs
-
 returns-3 : tie.Need-returns-3
 returns-3 c =
     let at-asked = c .before .before in
@@ -218,23 +203,23 @@ enable-by-spec =
     tie.close
     (tie.spec
     ask-slot-requires
-    enum-known-asked
-    refuse-requires
+    (λ c. search needs)
+    (λ c κs. search needs)
     enum-told
     block-at-requires
     rows-of-requires
     slot-start-requires
     is-erased-requires
-    refuse-requires-2
+    (λ c κs. search needs)
     returns
     block-at-requires-2
     places-of-requires
     enough-places-requires
-    refuse-requires-3
+    (λ c κs. search needs)
     returns-2
     cast-at0
     cast-at1
     enable-job-requires
-    begun-requires
+    (λ c κs. search needs)
     returns-3
     returns-4)

@@ -23,12 +23,6 @@ free-by-definition s =
     free-is (a .p .now) (a .places) (s .pre .0 .0 .pointers)
     ∙ sym (free-by-value (starts (a .t .now)) (places (a .p .now)))
 
-comes-first-requires : tie.Need-comes-first-requires
-comes-first-requires c κs = search needs
-
-no-steps-requires : tie.Need-no-steps-requires
-no-steps-requires c κs = search needs
-
 returns : tie.Need-returns
 unfolding order-by
 returns c =
@@ -54,12 +48,6 @@ cast-into-places c =
     let h = s .pre .0 .0 .pointers in
     omega (arith, places-fit p (h .block .stands) .in-block, offset-is p (s .args .places) h)
 
-bytes-of-requires : tie.Need-bytes-of-requires
-bytes-of-requires c κs = search needs
-
-into-places-requires : tie.Need-into-places-requires
-into-places-requires c κs = search needs
-
 returns-2 : tie.Need-returns-2
 unfolding order-by
 returns-2 c =
@@ -78,12 +66,6 @@ returns-2 c =
     (at-bytes-of .bytes-of .result) (omega (arith, count-is (a .p .now) (a .places) h, at-if2 .if2 .taken))
     (offset-is (a .p .now) (a .places) h)
     (at-one-place .one-place .ensures) (at-bytes-of .bytes-of .ensures))
-
-order-with-first-requires : tie.Need-order-with-first-requires
-order-with-first-requires c κs = search needs
-
-pair-rewritten-requires : tie.Need-pair-rewritten-requires
-pair-rewritten-requires c κs = search needs
 
 returns-3 : tie.Need-returns-3
 unfolding order-by
@@ -105,14 +87,14 @@ pub enable-job-spec : {M : Type 1} → statement M
 enable-job-spec =
     tie.close
     (tie.spec
-    comes-first-requires
-    no-steps-requires
+    (λ c κs. search needs)
+    (λ c κs. search needs)
     returns
     one-place-requires
     cast-into-places
-    bytes-of-requires
-    into-places-requires
+    (λ c κs. search needs)
+    (λ c κs. search needs)
     returns-2
-    order-with-first-requires
-    pair-rewritten-requires
+    (λ c κs. search needs)
+    (λ c κs. search needs)
     returns-3)

@@ -27,12 +27,6 @@ repaired-requires-2 c κs =
     let l = where-blocks-are s in
     ((l .cpb0-inside, l .cpb1-inside), (omega (arith, l .pointers-inside, l .cpb0-inside), l .short))
 
-rewrites-requires : tie.Need-rewrites-requires
-rewrites-requires c κs = search needs
-
-begun-requires : tie.Need-begun-requires
-begun-requires c κs = search needs
-
 returns : tie.Need-returns
 unfolding repair-job
 returns c =
@@ -47,4 +41,4 @@ returns c =
 pub repair-by-spec : {M : Type 1} → statement M
 repair-by-spec =
     tie.close
-    (tie.spec repaired-requires repaired-requires-2 rewrites-requires begun-requires returns)
+    (tie.spec repaired-requires repaired-requires-2 (λ c κs. search needs) (λ c κs. search needs) returns)

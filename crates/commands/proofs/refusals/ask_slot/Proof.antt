@@ -10,12 +10,6 @@ use Rattle.reading.proofs.Opening.{has-entries}
 use Rattle.commands.proofs.refusals.ask_slot.Statement.{statement}
 use Rattle.commands.proofs.refusals.ask_slot.Tie as tie
 
-same-blocks-requires : tie.Need-same-blocks-requires
-same-blocks-requires c κs = search needs
-
-same-blocks-requires-2 : tie.Need-same-blocks-requires-2
-same-blocks-requires-2 c κs = search needs
-
 returns : tie.Need-returns
 unfolding outcome copies-equal
 returns c =
@@ -27,21 +21,12 @@ returns c =
     (rw (at-same-blocks .same-blocks .ensures, at-same-blocks2 .same-blocks2 .ensures) at
     (not-true (at-same-blocks .same-blocks .result && at-same-blocks2 .same-blocks2 .result) (c .if1 .taken))))
 
-block-at-requires : tie.Need-block-at-requires
-block-at-requires c κs = search needs
-
-entry-count-requires : tie.Need-entry-count-requires
-entry-count-requires c κs = search needs
-
 count-slots-requires : tie.Need-count-slots-requires
 count-slots-requires c κs =
     let at-block-at = c .before in
     let start = at-block-at .before .before .before .before .before in
     has-entries (start .pre) (at-block-at .block-at .result .now)
     (c .entry-count .result) (at-block-at .block-at .ensures) (c .entry-count .ensures)
-
-cast-if2 : tie.Need-cast-if2
-cast-if2 c = search needs
 
 returns-2 : tie.Need-returns-2
 unfolding outcome copies-equal
@@ -83,12 +68,12 @@ pub ask-slot-spec : {M : Type 1} → statement M
 ask-slot-spec =
     tie.close
     (tie.spec
-    same-blocks-requires
-    same-blocks-requires-2
+    (λ c κs. search needs)
+    (λ c κs. search needs)
     returns
-    block-at-requires
-    entry-count-requires
+    (λ c κs. search needs)
+    (λ c κs. search needs)
     count-slots-requires
-    cast-if2
+    (λ c. search needs)
     returns-2
     returns-3)

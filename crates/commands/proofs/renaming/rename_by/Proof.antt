@@ -30,20 +30,8 @@ ask-slot-requires c κs =
     let s = c .before .before in
     where-blocks-are s
 
-enum-known-asked : tie.Need-enum-known-asked
-enum-known-asked c = search needs
-
-refuse-requires : tie.Need-refuse-requires
-refuse-requires c κs = search needs
-
 enum-told : tie.Need-enum-told
 enum-told c = search needs
-
-name-allowed-requires : tie.Need-name-allowed-requires
-name-allowed-requires c κs = search needs
-
-refuse-requires-2 : tie.Need-refuse-requires-2
-refuse-requires-2 c κs = search needs
 
 returns : tie.Need-returns
 returns c =
@@ -67,9 +55,6 @@ block-at-requires c κs =
     let s = c .before .before .before .before .before .before .before in
     where-blocks-are s .table-inside
 
-entry-count-requires : tie.Need-entry-count-requires
-entry-count-requires c κs = search needs
-
 slot-row-requires : tie.Need-slot-row-requires
 slot-row-requires c κs =
     let at-block-at = c .before in
@@ -84,9 +69,6 @@ name-free-requires c κs =
     let s = at-block-at .before .before .before .before .before .before .before .before in
     has-entries (where-blocks-are s) (at-block-at .block-at .result .now)
     (at-entry-count .entry-count .result) (at-block-at .block-at .ensures) (at-entry-count .entry-count .ensures)
-
-refuse-requires-3 : tie.Need-refuse-requires-3
-refuse-requires-3 c κs = search needs
 
 returns-2 : tie.Need-returns-2
 returns-2 c =
@@ -148,9 +130,6 @@ rename-job-requires c κs =
     (at-slot-row .slot-row .result .0) (at-slot-row .slot-row .ensures .0) in
     ((at-block-at .block-at .ensures .1, omega (arith, row)), omega (arith, allowed (a .name .now) name-right .short))
 
-begun-requires : tie.Need-begun-requires
-begun-requires c κs = search needs
-
 returns-3 : tie.Need-returns-3
 returns-3 c =
     let at-asked = c .before .before in
@@ -205,21 +184,21 @@ rename-by-spec =
     tie.close
     (tie.spec
     ask-slot-requires
-    enum-known-asked
-    refuse-requires
+    (λ c. search needs)
+    (λ c κs. search needs)
     enum-told
-    name-allowed-requires
-    refuse-requires-2
+    (λ c κs. search needs)
+    (λ c κs. search needs)
     returns
     block-at-requires
-    entry-count-requires
+    (λ c κs. search needs)
     slot-row-requires
     name-free-requires
-    refuse-requires-3
+    (λ c κs. search needs)
     returns-2
     cast-at0
     cast-at1
     rename-job-requires
-    begun-requires
+    (λ c κs. search needs)
     returns-3
     returns-4)

@@ -4,22 +4,10 @@ use borrow.Author.Needs.{needs}
 use Rattle.commands.proofs.renaming.rename_job.Statement.{statement}
 use Rattle.commands.proofs.renaming.rename_job.Tie as tie
 
-has-name-requires : tie.Need-has-name-requires
-has-name-requires c κs = search needs
-
-no-steps-requires : tie.Need-no-steps-requires
-no-steps-requires c κs = search needs
-
 returns : tie.Need-returns
 returns c =
     let same-name = sym (c .before .before .has-name .ensures) ∙ c .before .if1 .taken in
     c .no-steps .ensures ∙ rw same-name
-
-with-name-requires : tie.Need-with-name-requires
-with-name-requires c κs = search needs
-
-pair-rewritten-requires : tie.Need-pair-rewritten-requires
-pair-rewritten-requires c κs = search needs
 
 returns-2 : tie.Need-returns-2
 returns-2 c =
@@ -30,9 +18,9 @@ pub rename-job-spec : {M : Type 1} → statement M
 rename-job-spec =
     tie.close
     (tie.spec
-    has-name-requires
-    no-steps-requires
+    (λ c κs. search needs)
+    (λ c κs. search needs)
     returns
-    with-name-requires
-    pair-rewritten-requires
+    (λ c κs. search needs)
+    (λ c κs. search needs)
     returns-2)

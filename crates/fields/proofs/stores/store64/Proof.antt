@@ -4,18 +4,6 @@ use Rattle.fields.proofs.Stored.{halves-stored}
 use Rattle.fields.proofs.stores.store64.Tie as tie
 use Rattle.fields.proofs.stores.store64.Statement.{statement}
 
-store32-requires : tie.Need-store32-requires
-store32-requires c κs = search needs
-
-add-store32 : tie.Need-add-store32
-add-store32 c = search needs
-
-store32-requires-2 : tie.Need-store32-requires-2
-store32-requires-2 c κs = search needs
-
-same-length : tie.Need-same-length
-same-length c = search needs
-
 returns : tie.Need-returns
 returns c =
     let at-second = c .before .before in
@@ -25,4 +13,4 @@ returns c =
 
 pub store64-spec : {M : Type 1} → statement M
 store64-spec =
-    tie.close (tie.spec store32-requires add-store32 store32-requires-2 same-length returns)
+    tie.close (tie.spec (λ c κs. search needs) (λ c. search needs) (λ c κs. search needs) (λ c. search needs) returns)

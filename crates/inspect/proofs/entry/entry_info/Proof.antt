@@ -10,15 +10,6 @@ use Rattle.inspect.specs.Entries.{info-in, entry-info}
 use Rattle.inspect.proofs.entry.entry_info.Statement.{statement}
 use Rattle.inspect.proofs.entry.entry_info.Tie as tie
 
-view-requires : tie.Need-view-requires
-view-requires c κs = search needs
-
-enum-known-seen : tie.Need-enum-known-seen
-enum-known-seen c = search needs
-
-enum-known-seen-2 : tie.Need-enum-known-seen-2
-enum-known-seen-2 c = search needs
-
 block-at-requires : tie.Need-block-at-requires
 block-at-requires c κs =
     let called = c .before .before .before in
@@ -49,9 +40,9 @@ pub entry-info-spec : {M : Type 1} → statement M
 entry-info-spec =
     tie.close
     (tie.spec
-    view-requires
-    enum-known-seen
-    enum-known-seen-2
+    (λ c κs. search needs)
+    (λ c. search needs)
+    (λ c. search needs)
     block-at-requires
     info-in-requires
     returns

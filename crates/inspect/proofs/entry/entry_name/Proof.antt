@@ -7,17 +7,8 @@ use Rattle.inspect.proofs.EntryNames.{no-entry-name}
 use Rattle.inspect.proofs.entry.entry_name.Statement.{statement}
 use Rattle.inspect.proofs.entry.entry_name.Tie as tie
 
-view-requires : tie.Need-view-requires
-view-requires c κs = search needs
-
 enum-told : tie.Need-enum-told
 enum-told c = search needs
-
-slice-aggregate-result : tie.Need-slice-aggregate-result
-slice-aggregate-result c = search needs
-
-enum-known-seen : tie.Need-enum-known-seen
-enum-known-seen c = search needs
 
 block-at-requires : tie.Need-block-at-requires
 block-at-requires c κs =
@@ -55,10 +46,10 @@ pub entry-name-spec : {M : Type 1} → statement M
 entry-name-spec =
     tie.close
     (tie.spec
-    view-requires
+    (λ c κs. search needs)
     enum-told
-    slice-aggregate-result
-    enum-known-seen
+    (λ c. search needs)
+    (λ c. search needs)
     block-at-requires
     name-in-requires
     returns

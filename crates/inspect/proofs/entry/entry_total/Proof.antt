@@ -9,22 +9,10 @@ use Rattle.inspect.specs.Entries.{entry-total}
 use Rattle.inspect.proofs.entry.entry_total.Statement.{statement}
 use Rattle.inspect.proofs.entry.entry_total.Tie as tie
 
-view-requires : tie.Need-view-requires
-view-requires c κs = search needs
-
-enum-known-seen : tie.Need-enum-known-seen
-enum-known-seen c = search needs
-
-enum-known-seen-2 : tie.Need-enum-known-seen-2
-enum-known-seen-2 c = search needs
-
 block-at-requires : tie.Need-block-at-requires
 block-at-requires c κs =
     let called = c .before .before .before in
     opened _ _ (called .view .ensures) (c .before .seen2 .given .1) .table-inside
-
-entry-count-requires : tie.Need-entry-count-requires
-entry-count-requires c κs = search needs
 
 returns : tie.Need-returns
 unfolding totalled entry-total _>>=_
@@ -44,10 +32,10 @@ pub entry-total-spec : {M : Type 1} → statement M
 entry-total-spec =
     tie.close
     (tie.spec
-    view-requires
-    enum-known-seen
-    enum-known-seen-2
+    (λ c κs. search needs)
+    (λ c. search needs)
+    (λ c. search needs)
     block-at-requires
-    entry-count-requires
+    (λ c κs. search needs)
     returns
     returns-2)

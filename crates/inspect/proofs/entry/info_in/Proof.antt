@@ -8,9 +8,6 @@ use Rattle.inspect.proofs.Numbered.{not-there, there, entry-found}
 use Rattle.inspect.proofs.entry.info_in.Statement.{statement}
 use Rattle.inspect.proofs.entry.info_in.Tie as tie
 
-entry-count-requires : tie.Need-entry-count-requires
-entry-count-requires c κs = search needs
-
 returns : tie.Need-returns
 unfolding known info-in unless
 returns c =
@@ -23,12 +20,6 @@ entry-start-requires c κs =
     let called = c .before .before in
     let start = called .before .before in
     (start .pre .whole, omega (arith, start .pre .few, called .entry-count .ensures, c .if1 .left))
-
-entry-size-requires : tie.Need-entry-size-requires
-entry-size-requires c κs = search needs
-
-entry-flags-requires : tie.Need-entry-flags-requires
-entry-flags-requires c κs = search needs
 
 returns-2 : tie.Need-returns-2
 unfolding known info-in unless facts-of
@@ -48,9 +39,9 @@ pub info-in-spec : {M : Type 1} → statement M
 info-in-spec =
     tie.close
     (tie.spec
-    entry-count-requires
+    (λ c κs. search needs)
     returns
     entry-start-requires
-    entry-size-requires
-    entry-flags-requires
+    (λ c κs. search needs)
+    (λ c κs. search needs)
     returns-2)

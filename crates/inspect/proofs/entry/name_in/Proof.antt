@@ -11,24 +11,12 @@ use Rattle.inspect.proofs.Numbered.{not-there, there, entry-found}
 use Rattle.inspect.proofs.entry.name_in.Statement.{statement}
 use Rattle.inspect.proofs.entry.name_in.Tie as tie
 
-entry-count-requires : tie.Need-entry-count-requires
-entry-count-requires c κs = search needs
-
-slice-aggregate-result : tie.Need-slice-aggregate-result
-slice-aggregate-result c = search needs
-
 returns : tie.Need-returns
 unfolding name-in
 returns c =
     let called = c .before .before .before in
     let a = called .before .before .args in
     rw (not-there (a .t .now) (a .entry .0) (called .entry-count .ensures) (c .before .if1 .taken))
-
-entry-name-requires : tie.Need-entry-name-requires
-entry-name-requires c κs = search needs
-
-name-length-requires : tie.Need-name-length-requires
-name-length-requires c κs = search needs
 
 slice-aggregate-result-2 : tie.Need-slice-aggregate-result-2
 slice-aggregate-result-2 c =
@@ -55,10 +43,10 @@ pub name-in-spec : {M : Type 1} → statement M
 name-in-spec =
     tie.close
     (tie.spec
-    entry-count-requires
-    slice-aggregate-result
+    (λ c κs. search needs)
+    (λ c. search needs)
     returns
-    entry-name-requires
-    name-length-requires
+    (λ c κs. search needs)
+    (λ c κs. search needs)
     slice-aggregate-result-2
     returns-2)

@@ -6,15 +6,6 @@ use borrow.Author.Needs.{needs}
 use Rattle.inspect.proofs.four_blocks.condition_of.Statement.{statement}
 use Rattle.inspect.proofs.four_blocks.condition_of.Tie as tie
 
-view-requires : tie.Need-view-requires
-view-requires c κs = search needs
-
-enum-known-seen : tie.Need-enum-known-seen
-enum-known-seen c = search needs
-
-enum-known-seen-2 : tie.Need-enum-known-seen-2
-enum-known-seen-2 c = search needs
-
 condition-by-requires : tie.Need-condition-by-requires
 condition-by-requires c κs =
     let called = c .before .before .before in
@@ -36,9 +27,9 @@ pub condition-of-spec : {M : Type 1} → statement M
 condition-of-spec =
     tie.close
     (tie.spec
-    view-requires
-    enum-known-seen
-    enum-known-seen-2
+    (λ c κs. search needs)
+    (λ c. search needs)
+    (λ c. search needs)
     condition-by-requires
     returns
     returns-2)

@@ -13,9 +13,6 @@ use Rattle.inspect.proofs.Numbered.{value-found}
 use Rattle.inspect.proofs.place.held_in.Statement.{statement}
 use Rattle.inspect.proofs.place.held_in.Tie as tie
 
-places-of-requires : tie.Need-places-of-requires
-places-of-requires c κs = search needs
-
 returns : tie.Need-returns
 unfolding holding held-in unless
 returns c =
@@ -30,9 +27,6 @@ place-value-requires : tie.Need-place-value-requires
 place-value-requires c κs =
     let called = c .before .before .before in
     (record { block = called .before .before .before .pre .1; places = called .places-of .ensures }, c .if1 .left)
-
-rows-of-requires : tie.Need-rows-of-requires
-rows-of-requires c κs = search needs
 
 judge-requires : tie.Need-judge-requires
 unfolding rows-of
@@ -61,9 +55,9 @@ pub held-in-spec : {M : Type 1} → statement M
 held-in-spec =
     tie.close
     (tie.spec
-    places-of-requires
+    (λ c κs. search needs)
     returns
     place-value-requires
-    rows-of-requires
+    (λ c κs. search needs)
     judge-requires
     returns-2)

@@ -7,15 +7,6 @@ use Rattle.inspect.specs.Places.{place-at, holding}
 use Rattle.inspect.proofs.place.place_at.Statement.{statement}
 use Rattle.inspect.proofs.place.place_at.Tie as tie
 
-view-requires : tie.Need-view-requires
-view-requires c κs = search needs
-
-enum-known-seen : tie.Need-enum-known-seen
-enum-known-seen c = search needs
-
-enum-known-seen-2 : tie.Need-enum-known-seen-2
-enum-known-seen-2 c = search needs
-
 block-at-requires : tie.Need-block-at-requires
 block-at-requires c κs =
     let called = c .before .before .before in
@@ -56,9 +47,9 @@ pub place-at-spec : {M : Type 1} → statement M
 place-at-spec =
     tie.close
     (tie.spec
-    view-requires
-    enum-known-seen
-    enum-known-seen-2
+    (λ c κs. search needs)
+    (λ c. search needs)
+    (λ c. search needs)
     block-at-requires
     block-at-requires-2
     held-in-requires

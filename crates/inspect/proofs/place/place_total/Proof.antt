@@ -10,15 +10,6 @@ use Rattle.inspect.specs.Places.{place-total}
 use Rattle.inspect.proofs.place.place_total.Statement.{statement}
 use Rattle.inspect.proofs.place.place_total.Tie as tie
 
-view-requires : tie.Need-view-requires
-view-requires c κs = search needs
-
-enum-known-seen : tie.Need-enum-known-seen
-enum-known-seen c = search needs
-
-enum-known-seen-2 : tie.Need-enum-known-seen-2
-enum-known-seen-2 c = search needs
-
 block-at-requires : tie.Need-block-at-requires
 block-at-requires c κs =
     let called = c .before .before .before in
@@ -48,9 +39,9 @@ pub place-total-spec : {M : Type 1} → statement M
 place-total-spec =
     tie.close
     (tie.spec
-    view-requires
-    enum-known-seen
-    enum-known-seen-2
+    (λ c κs. search needs)
+    (λ c. search needs)
+    (λ c. search needs)
     block-at-requires
     places-of-requires
     returns

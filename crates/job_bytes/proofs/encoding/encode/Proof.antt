@@ -24,17 +24,8 @@ typed c = record {
   second = search needs;
 }
 
-store-numbers-requires : tie.Need-store-numbers-requires
-store-numbers-requires c κs = search needs
-
-slice-aggregate-copy : tie.Need-slice-aggregate-copy
-slice-aggregate-copy c = search needs
-
 copy-requires : tie.Need-copy-requires
 copy-requires c κs = omega (arith, typed (c .before .before .before .before .before .before .before .before .before .before .before) .value)
-
-meant-size-requires : tie.Need-meant-size-requires
-meant-size-requires c κs = search needs
 
 array-share-prefix-places : tie.Need-array-share-prefix-places
 array-share-prefix-places c = omega (arith, typed (c .before .before .before .before .before .before .before .before .before .before .before .before .before .before .before .before) .places)
@@ -49,9 +40,6 @@ copy-requires-2 c κs =
     let t = typed (c .before .before .before .before .before .before .before .before .before .before .before .before .before .before .before .before .before) in
     rw length-take (omega (arith, t .places))
 
-slice-aggregate-store-block : tie.Need-slice-aggregate-store-block
-slice-aggregate-store-block c = search needs
-
 store-block-requires : tie.Need-store-block-requires
 store-block-requires c κs = omega (arith, typed (c .before .before .before .before .before .before .before .before .before .before .before .before .before .before .before .before .before .before .before .before .before .before) .first)
 
@@ -60,9 +48,6 @@ slice-aggregate-store-block-2 c = sym (typed (c .before .before .before .before 
 
 store-block-requires-2 : tie.Need-store-block-requires-2
 store-block-requires-2 c κs = omega (arith, typed (c .before .before .before .before .before .before .before .before .before .before .before .before .before .before .before .before .before .before .before .before .before .before .before .before .before .before .before) .second)
-
-same-length : tie.Need-same-length
-same-length c = search needs
 
 returns : tie.Need-returns
 returns c =
@@ -82,16 +67,16 @@ pub encode-spec : {M : Type 1} → statement M
 encode-spec =
     tie.close
     (tie.spec
-    store-numbers-requires
-    slice-aggregate-copy
+    (λ c κs. search needs)
+    (λ c. search needs)
     copy-requires
-    meant-size-requires
+    (λ c κs. search needs)
     array-share-prefix-places
     slice-aggregate-copy-2
     copy-requires-2
-    slice-aggregate-store-block
+    (λ c. search needs)
     store-block-requires
     slice-aggregate-store-block-2
     store-block-requires-2
-    same-length
+    (λ c. search needs)
     returns)

@@ -6,27 +6,6 @@ use Rattle.job_bytes.specs.Form.{offset-at, first-address-at, addresses-
 use Rattle.job_bytes.proofs.encoding.store_addresses.Statement.{statement}
 use Rattle.job_bytes.proofs.encoding.store_addresses.Tie as tie
 
-cast-store32 : tie.Need-cast-store32
-cast-store32 c = search needs
-
-store32-requires : tie.Need-store32-requires
-store32-requires c κs = search needs
-
-cast-store32-2 : tie.Need-cast-store32-2
-cast-store32-2 c = search needs
-
-store32-requires-2 : tie.Need-store32-requires-2
-store32-requires-2 c κs = search needs
-
-cast-store32-3 : tie.Need-cast-store32-3
-cast-store32-3 c = search needs
-
-store32-requires-3 : tie.Need-store32-requires-3
-store32-requires-3 c κs = search needs
-
-same-length : tie.Need-same-length
-same-length c = search needs
-
 returns : tie.Need-returns
 unfolding addresses-encoded
 returns c =
@@ -42,11 +21,11 @@ pub store-addresses-spec : {M : Type 1} → statement M
 store-addresses-spec =
     tie.close
     (tie.spec
-    cast-store32
-    store32-requires
-    cast-store32-2
-    store32-requires-2
-    cast-store32-3
-    store32-requires-3
-    same-length
+    (λ c. search needs)
+    (λ c κs. search needs)
+    (λ c. search needs)
+    (λ c κs. search needs)
+    (λ c. search needs)
+    (λ c κs. search needs)
+    (λ c. search needs)
     returns)

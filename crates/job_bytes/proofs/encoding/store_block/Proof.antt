@@ -9,23 +9,11 @@ use Rattle.job_bytes.proofs.encoding.store_block.Tie as tie
 enum-told : tie.Need-enum-told
 enum-told c = search needs
 
-enum-told-2 : tie.Need-enum-told-2
-enum-told-2 c = search needs
-
-copy-requires : tie.Need-copy-requires
-copy-requires c κs = search needs
-
-enum-told-3 : tie.Need-enum-told-3
-enum-told-3 c = search needs
-
 returns : tie.Need-returns
 unfolding block-over
 returns c =
     let s = c .before .before .before .before in
     rw (c .enum-told .given .1) (put-own (s .args .at) (length (s .args .block .now)) (s .args .out .now) (s .pre))
-
-same-length : tie.Need-same-length
-same-length c = search needs
 
 returns-2 : tie.Need-returns-2
 unfolding block-over
@@ -42,10 +30,10 @@ store-block-spec =
     tie.close
     (tie.spec
     enum-told
-    enum-told-2
-    copy-requires
-    enum-told-3
+    (λ c. search needs)
+    (λ c κs. search needs)
+    (λ c. search needs)
     returns
-    same-length
+    (λ c. search needs)
     returns-2
     returns-3)

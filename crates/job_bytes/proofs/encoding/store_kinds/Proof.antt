@@ -6,21 +6,6 @@ use Rattle.job_bytes.specs.Form.{first-kind-at, kinds-encoded}
 use Rattle.job_bytes.proofs.encoding.store_kinds.Statement.{statement}
 use Rattle.job_bytes.proofs.encoding.store_kinds.Tie as tie
 
-number-of-requires : tie.Need-number-of-requires
-number-of-requires c κs = search needs
-
-store16-requires : tie.Need-store16-requires
-store16-requires c κs = search needs
-
-number-of-requires-2 : tie.Need-number-of-requires-2
-number-of-requires-2 c κs = search needs
-
-store16-requires-2 : tie.Need-store16-requires-2
-store16-requires-2 c κs = search needs
-
-same-length : tie.Need-same-length
-same-length c = search needs
-
 returns : tie.Need-returns
 unfolding kinds-encoded
 returns c =
@@ -35,9 +20,9 @@ pub store-kinds-spec : {M : Type 1} → statement M
 store-kinds-spec =
     tie.close
     (tie.spec
-    number-of-requires
-    store16-requires
-    number-of-requires-2
-    store16-requires-2
-    same-length
+    (λ c κs. search needs)
+    (λ c κs. search needs)
+    (λ c κs. search needs)
+    (λ c κs. search needs)
+    (λ c. search needs)
     returns)

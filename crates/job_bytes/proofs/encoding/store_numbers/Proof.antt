@@ -7,18 +7,6 @@ use Rattle.job_bytes.proofs.Numbers.{length-sizes, length-addresses}
 use Rattle.job_bytes.proofs.encoding.store_numbers.Statement.{statement}
 use Rattle.job_bytes.proofs.encoding.store_numbers.Tie as tie
 
-store-sizes-requires : tie.Need-store-sizes-requires
-store-sizes-requires c κs = search needs
-
-store-addresses-requires : tie.Need-store-addresses-requires
-store-addresses-requires c κs = search needs
-
-store-kinds-requires : tie.Need-store-kinds-requires
-store-kinds-requires c κs = search needs
-
-same-length : tie.Need-same-length
-same-length c = search needs
-
 returns : tie.Need-returns
 unfolding numbers-encoded
 returns c =
@@ -35,8 +23,8 @@ pub store-numbers-spec : {M : Type 1} → statement M
 store-numbers-spec =
     tie.close
     (tie.spec
-    store-sizes-requires
-    store-addresses-requires
-    store-kinds-requires
-    same-length
+    (λ c κs. search needs)
+    (λ c κs. search needs)
+    (λ c κs. search needs)
+    (λ c. search needs)
     returns)

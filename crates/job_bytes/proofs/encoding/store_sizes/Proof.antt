@@ -6,21 +6,6 @@ use Rattle.job_bytes.specs.Form.{len-at, granule-at, count-at, sizes-enc
 use Rattle.job_bytes.proofs.encoding.store_sizes.Statement.{statement}
 use Rattle.job_bytes.proofs.encoding.store_sizes.Tie as tie
 
-store64-requires : tie.Need-store64-requires
-store64-requires c κs = search needs
-
-store64-requires-2 : tie.Need-store64-requires-2
-store64-requires-2 c κs = search needs
-
-store64-requires-3 : tie.Need-store64-requires-3
-store64-requires-3 c κs = search needs
-
-store64-requires-4 : tie.Need-store64-requires-4
-store64-requires-4 c κs = search needs
-
-same-length : tie.Need-same-length
-same-length c = search needs
-
 returns : tie.Need-returns
 unfolding sizes-encoded
 returns c =
@@ -38,9 +23,9 @@ pub store-sizes-spec : {M : Type 1} → statement M
 store-sizes-spec =
     tie.close
     (tie.spec
-    store64-requires
-    store64-requires-2
-    store64-requires-3
-    store64-requires-4
-    same-length
+    (λ c κs. search needs)
+    (λ c κs. search needs)
+    (λ c κs. search needs)
+    (λ c κs. search needs)
+    (λ c. search needs)
     returns)

@@ -12,18 +12,12 @@ plan-from-requires c κs = let s = c .before .before in length-of-job (s .args .
 done-from-requires : tie.Need-done-from-requires
 done-from-requires c κs = let s = c .before .before .before .before in length-of-job (s .args .job .now) (s .pre)
 
-counted-of-requires : tie.Need-counted-of-requires
-counted-of-requires c κs = search needs
-
 store-done-requires : tie.Need-store-done-requires
 store-done-requires c κs =
     let at-counted = c .before in
     let at-done = at-counted .before in
     let s = at-done .before .before .before .before .before in
     (s .pre, rw (← at-done .done-from .ensures) (at-counted .counted-of .ensures .1))
-
-same-length : tie.Need-same-length
-same-length c = search needs
 
 returns : tie.Need-returns
 unfolding job-from
@@ -44,7 +38,7 @@ advance-spec =
     (tie.spec
     plan-from-requires
     done-from-requires
-    counted-of-requires
+    (λ c κs. search needs)
     store-done-requires
-    same-length
+    (λ c. search needs)
     returns)

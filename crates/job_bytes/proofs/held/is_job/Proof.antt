@@ -10,12 +10,6 @@ returns : tie.Need-returns
 unfolding holds-job
 returns c = rw (ne-eqb (length (c .before .before .args .bytes .now)) job-size (c .if1 .taken))
 
-le16-requires : tie.Need-le16-requires
-le16-requires c κs = search needs
-
-le16-requires-2 : tie.Need-le16-requires-2
-le16-requires-2 c κs = search needs
-
 returns-2 : tie.Need-returns-2
 unfolding holds-job
 returns-2 c =
@@ -23,4 +17,4 @@ returns-2 c =
     rw (c .before .le16 .ensures .0, c .le162 .ensures .0, eq-eqb (length (s .args .bytes .now)) job-size (c .before .before .if1 .left))
 
 pub is-job-spec : {M : Type 1} → statement M
-is-job-spec = tie.close (tie.spec returns le16-requires le16-requires-2 returns-2)
+is-job-spec = tie.close (tie.spec returns (λ c κs. search needs) (λ c κs. search needs) returns-2)

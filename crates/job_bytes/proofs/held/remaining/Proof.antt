@@ -7,15 +7,6 @@ use Rattle.job_bytes.proofs.Advancing.{arrays-held}
 use Rattle.job_bytes.proofs.held.remaining.Statement.{statement}
 use Rattle.job_bytes.proofs.held.remaining.Tie as tie
 
-plan-from-requires : tie.Need-plan-from-requires
-plan-from-requires c κs = search needs
-
-done-from-requires : tie.Need-done-from-requires
-done-from-requires c κs = search needs
-
-remaining-of-requires : tie.Need-remaining-of-requires
-remaining-of-requires c κs = search needs
-
 returns : tie.Need-returns
 unfolding job-from
 returns c =
@@ -26,4 +17,4 @@ returns c =
 
 pub remaining-spec : {M : Type 1} → statement M
 remaining-spec =
-    tie.close (tie.spec plan-from-requires done-from-requires remaining-of-requires returns)
+    tie.close (tie.spec (λ c κs. search needs) (λ c κs. search needs) (λ c κs. search needs) returns)

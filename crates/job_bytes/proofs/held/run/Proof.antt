@@ -17,12 +17,6 @@ store-done-requires c κs =
           (at-run-parts .run-parts .ensures .0),
     )
 
-same-length : tie.Need-same-length
-same-length c = search needs
-
-same-length-2 : tie.Need-same-length-2
-same-length-2 c = search needs
-
 returns : tie.Need-returns
 returns c =
     let at-store = c .before .before in
@@ -35,4 +29,4 @@ returns c =
 
 pub run-spec : {M : Type 1} → statement M
 run-spec =
-    tie.close (tie.spec run-parts-requires store-done-requires same-length same-length-2 returns)
+    tie.close (tie.spec run-parts-requires store-done-requires (λ c. search needs) (λ c. search needs) returns)

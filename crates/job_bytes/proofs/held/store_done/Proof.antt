@@ -9,9 +9,6 @@ use Rattle.job_bytes.proofs.held.store_done.Tie as tie
 enum-told : tie.Need-enum-told
 enum-told c = search needs
 
-enum-known-did : tie.Need-enum-known-did
-enum-known-did c = search needs
-
 done-from-requires : tie.Need-done-from-requires
 done-from-requires c κs = let s = c .before .before .before .before .before in length-of-job (s .args .job .now) (s .pre .0)
 
@@ -33,9 +30,6 @@ returns c =
     let s = c .before .before .before in
     rw (c .enum-told .given .1) (kept-here (s .args .job .now) (s .pre .0) _)
 
-same-length : tie.Need-same-length
-same-length c = search needs
-
 returns-2 : tie.Need-returns-2
 unfolding countable
 returns-2 c =
@@ -54,10 +48,10 @@ store-done-spec =
     tie.close
     (tie.spec
     enum-told
-    enum-known-did
+    (λ c. search needs)
     done-from-requires
     add-store64
     store64-requires
     returns
-    same-length
+    (λ c. search needs)
     returns-2)

@@ -21,27 +21,6 @@ abbrev μ-loop : tie.MeasureT-loop
 loop-holds : tie.Need-loop-holds Inv-loop μ-loop
 loop-holds c = ((search needs, search needs), λ g. rw add-zero)
 
-add-image : tie.Need-add-image Inv-loop μ-loop
-add-image c = search needs
-
-slice-read-image : tie.Need-slice-read-image Inv-loop μ-loop
-slice-read-image c = search needs
-
-shared-slice-read-image : tie.Need-shared-slice-read-image Inv-loop μ-loop
-shared-slice-read-image c = search needs
-
-add-image-2 : tie.Need-add-image-2 Inv-loop μ-loop
-add-image-2 c = search needs
-
-slice-write-image : tie.Need-slice-write-image Inv-loop μ-loop
-slice-write-image c = search needs
-
-add-i : tie.Need-add-i Inv-loop μ-loop
-add-i c = search needs
-
-loop-less : tie.Need-loop-less Inv-loop μ-loop
-loop-less c = search needs
-
 loop-again : tie.Need-loop-again Inv-loop μ-loop
 unfolding programmed
 loop-again c =
@@ -50,9 +29,6 @@ loop-again c =
       (omega arith, simp length-set (at .loop .inv .0 .1)),
       λ g. at .loop .inv .1 g ∙ programs-step g (a .at) (a .given .now) (at .loop .image) (at .loop .i) (omega arith),
     )
-
-same-length : tie.Need-same-length Inv-loop μ-loop
-same-length c = search needs
 
 returns : tie.Need-returns Inv-loop μ-loop
 returns c =
@@ -68,13 +44,13 @@ program-spec =
     Inv-loop
     μ-loop
     loop-holds
-    add-image
-    slice-read-image
-    shared-slice-read-image
-    add-image-2
-    slice-write-image
-    add-i
-    loop-less
+    (λ c. search needs)
+    (λ c. search needs)
+    (λ c. search needs)
+    (λ c. search needs)
+    (λ c. search needs)
+    (λ c. search needs)
+    (λ c. search needs)
     loop-again
-    same-length
+    (λ c. search needs)
     returns)

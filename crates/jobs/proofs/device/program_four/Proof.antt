@@ -8,50 +8,23 @@ use Rattle.rules.specs.Steps.{step, steps, programmed, programs}
 use Rattle.jobs.proofs.device.program_four.Statement.{statement}
 use Rattle.jobs.proofs.device.program_four.Tie as tie
 
-slice-read-image : tie.Need-slice-read-image
-slice-read-image c = search needs
-
-slice-write-image : tie.Need-slice-write-image
-slice-write-image c = search needs
-
-add-image : tie.Need-add-image
-add-image c = search needs
-
 slice-read-image-2 : tie.Need-slice-read-image-2
 slice-read-image-2 c = simp length-set (search needs)
-
-add-image-2 : tie.Need-add-image-2
-add-image-2 c = search needs
 
 slice-write-image-2 : tie.Need-slice-write-image-2
 slice-write-image-2 c = simp length-set (search needs)
 
-add-image-3 : tie.Need-add-image-3
-add-image-3 c = search needs
-
 slice-read-image-3 : tie.Need-slice-read-image-3
 slice-read-image-3 c = simp length-set (search needs)
-
-add-image-4 : tie.Need-add-image-4
-add-image-4 c = search needs
 
 slice-write-image-3 : tie.Need-slice-write-image-3
 slice-write-image-3 c = simp length-set (search needs)
 
-add-image-5 : tie.Need-add-image-5
-add-image-5 c = search needs
-
 slice-read-image-4 : tie.Need-slice-read-image-4
 slice-read-image-4 c = simp length-set (search needs)
 
-add-image-6 : tie.Need-add-image-6
-add-image-6 c = search needs
-
 slice-write-image-4 : tie.Need-slice-write-image-4
 slice-write-image-4 c = simp length-set (search needs)
-
-same-length : tie.Need-same-length
-same-length c = search needs
 
 returns : tie.Need-returns
 unfolding programmed step steps programs
@@ -66,19 +39,19 @@ pub program-four-spec : {M : Type 1} → statement M
 program-four-spec =
     tie.close
     (tie.spec
-    slice-read-image
-    slice-write-image
-    add-image
+    (λ c. search needs)
+    (λ c. search needs)
+    (λ c. search needs)
     slice-read-image-2
-    add-image-2
+    (λ c. search needs)
     slice-write-image-2
-    add-image-3
+    (λ c. search needs)
     slice-read-image-3
-    add-image-4
+    (λ c. search needs)
     slice-write-image-3
-    add-image-5
+    (λ c. search needs)
     slice-read-image-4
-    add-image-6
+    (λ c. search needs)
     slice-write-image-4
-    same-length
+    (λ c. search needs)
     returns)

@@ -19,21 +19,6 @@ Inv-loop len at offset places count from end skip₀ i₀ skip i = (i ≤ end) �
 abbrev μ-loop : tie.MeasureT-loop
 μ-loop len at offset places count from end skip₀ i₀ skip i = end - i
 
-least-requires : tie.Need-least-requires Inv-loop μ-loop
-least-requires c κs = search needs
-
-loop-holds : tie.Need-loop-holds Inv-loop μ-loop
-loop-holds c = search needs
-
-place-at-requires : tie.Need-place-at-requires Inv-loop μ-loop
-place-at-requires c κs = search needs
-
-place-address-requires : tie.Need-place-address-requires Inv-loop μ-loop
-place-address-requires c κs = search needs
-
-are-inside-requires : tie.Need-are-inside-requires Inv-loop μ-loop
-are-inside-requires c κs = search needs
-
 returns : tie.Need-returns Inv-loop μ-loop
 returns c =
     let at-are-inside = c .before in
@@ -49,15 +34,6 @@ returns c =
     (at-place-address .place-address .result) (at-place-address .place-address .ensures .0)
     (number-cons (min (a .count) place-room) (at .loop .i) (at-place .place-at .result .0) (a .places .now) (at-place .place-at .ensures .0) (omega arith))
     ∙ rw outside)
-
-less-requires : tie.Need-less-requires Inv-loop μ-loop
-less-requires c κs = search needs
-
-add-i : tie.Need-add-i Inv-loop μ-loop
-add-i c = search needs
-
-loop-less : tie.Need-loop-less Inv-loop μ-loop
-loop-less c = search needs
 
 loop-again : tie.Need-loop-again Inv-loop μ-loop
 loop-again c =
@@ -92,14 +68,14 @@ are-inside-spec =
     (tie.spec
     Inv-loop
     μ-loop
-    least-requires
-    loop-holds
-    place-at-requires
-    place-address-requires
-    are-inside-requires
+    (λ c κs. search needs)
+    (λ c. search needs)
+    (λ c κs. search needs)
+    (λ c κs. search needs)
+    (λ c κs. search needs)
     returns
-    less-requires
-    add-i
-    loop-less
+    (λ c κs. search needs)
+    (λ c. search needs)
+    (λ c. search needs)
     loop-again
     returns-2)

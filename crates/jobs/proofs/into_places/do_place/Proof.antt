@@ -16,12 +16,6 @@ program-eight-requires c κs =
     let asked = place-asked (a .window .from) (a .window .n) (at-if1 .if1 .taken) in
     (s .pre .0, bytes-inside (length (a .image .now)) (a .at) 8 (a .window .from) (s .pre .1) (omega (arith, asked .0)))
 
-beyond-requires : tie.Need-beyond-requires
-beyond-requires c κs = search needs
-
-same-length : tie.Need-same-length
-same-length c = search needs
-
 returns : tie.Need-returns
 returns c =
     let at-program = c .before .before .before in
@@ -39,9 +33,6 @@ do-range-requires c κs =
     let s = c .before .before .before .before .before .before in
     rw (s .pre .0) (s .pre .1)
 
-same-length-2 : tie.Need-same-length-2
-same-length-2 c = search needs
-
 returns-2 : tie.Need-returns-2
 returns-2 c =
     let at-range = c .before .before in
@@ -53,9 +44,9 @@ do-place-spec =
     tie.close
     (tie.spec
     program-eight-requires
-    beyond-requires
-    same-length
+    (λ c κs. search needs)
+    (λ c. search needs)
     returns
     do-range-requires
-    same-length-2
+    (λ c. search needs)
     returns-2)

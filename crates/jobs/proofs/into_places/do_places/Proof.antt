@@ -25,19 +25,10 @@ Inv-loop image₀ at offset places count value end rest₀ i₀ image rest i =
 abbrev μ-loop : tie.MeasureT-loop
 μ-loop image₀ at offset places count value end rest₀ i₀ image rest i = end - i
 
-least-requires : tie.Need-least-requires Inv-loop μ-loop
-least-requires c κs = search needs
-
 loop-holds : tie.Need-loop-holds Inv-loop μ-loop
 loop-holds c =
     let s = c .before .before .before .before in
     ((search needs, search needs), (s .pre .1, λ g. refl))
-
-place-at-requires : tie.Need-place-at-requires Inv-loop μ-loop
-place-at-requires c κs = search needs
-
-place-address-requires : tie.Need-place-address-requires Inv-loop μ-loop
-place-address-requires c κs = search needs
 
 do-place-requires : tie.Need-do-place-requires Inv-loop μ-loop
 do-place-requires c κs =
@@ -57,12 +48,6 @@ do-place-requires c κs =
     (places-inside len (a .at) (a .offset) (from - 8) rest)
     (sym all-inside ∙ at .loop .inv .1 .0) .0 in
     (s .pre .0 .1, this-inside)
-
-add-i : tie.Need-add-i Inv-loop μ-loop
-add-i c = search needs
-
-loop-less : tie.Need-loop-less Inv-loop μ-loop
-loop-less c = search needs
 
 loop-again : tie.Need-loop-again Inv-loop μ-loop
 unfolding beyond
@@ -100,9 +85,6 @@ loop-again c =
       ),
     )
 
-same-length : tie.Need-same-length Inv-loop μ-loop
-same-length c = search needs
-
 returns : tie.Need-returns Inv-loop μ-loop
 returns c =
     let at = c .before in
@@ -119,13 +101,13 @@ do-places-spec =
     (tie.spec
     Inv-loop
     μ-loop
-    least-requires
+    (λ c κs. search needs)
     loop-holds
-    place-at-requires
-    place-address-requires
+    (λ c κs. search needs)
+    (λ c κs. search needs)
     do-place-requires
-    add-i
-    loop-less
+    (λ c. search needs)
+    (λ c. search needs)
     loop-again
-    same-length
+    (λ c. search needs)
     returns)

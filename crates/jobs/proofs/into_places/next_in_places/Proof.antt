@@ -9,24 +9,12 @@ use Rattle.jobs.proofs.PlaceSteps.{next-place-read, no-next-place}
 use Rattle.jobs.proofs.into_places.next_in_places.Statement.{statement}
 use Rattle.jobs.proofs.into_places.next_in_places.Tie as tie
 
-least-requires : tie.Need-least-requires
-least-requires c κs = search needs
-
 returns : tie.Need-returns
 returns c =
     let s = c .before .before .before .before in
     let a = s .args in
     sym (no-next-place (a .at) (a .offset) (a .value .now) (s .pre .1) (a .from) (meant (a .count) (a .places .now))
     (rw (length-numbers (min (a .count) place-room) (a .places .now)) (omega arith)))
-
-place-at-requires : tie.Need-place-at-requires
-place-at-requires c κs = search needs
-
-place-address-requires : tie.Need-place-address-requires
-place-address-requires c κs = search needs
-
-next-program-requires : tie.Need-next-program-requires
-next-program-requires c κs = search needs
 
 returns-2 : tie.Need-returns-2
 returns-2 c =
@@ -43,9 +31,9 @@ pub next-in-places-spec : {M : Type 1} → statement M
 next-in-places-spec =
     tie.close
     (tie.spec
-    least-requires
+    (λ c κs. search needs)
     returns
-    place-at-requires
-    place-address-requires
-    next-program-requires
+    (λ c κs. search needs)
+    (λ c κs. search needs)
+    (λ c κs. search needs)
     returns-2)

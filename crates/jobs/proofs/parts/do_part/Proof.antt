@@ -12,18 +12,12 @@ use Rattle.jobs.proofs.parts.do_part.Tie as tie
 enum-told : tie.Need-enum-told
 enum-told c = search needs
 
-enum-told-2 : tie.Need-enum-told-2
-enum-told-2 c = search needs
-
 do-rewrite-requires : tie.Need-do-rewrite-requires
 unfolding part-inside
 do-rewrite-requires c κs =
     let at-enum-told2 = c .before in
     let s = at-enum-told2 .before .before .before .before .before .before in
     ((s .pre .0 .block, omega arith), rw (at-enum-told2 .enum-told2 .given .1) at (s .pre .1))
-
-enum-told-3 : tie.Need-enum-told-3
-enum-told-3 c = search needs
 
 do-places-requires : tie.Need-do-places-requires
 unfolding part-inside
@@ -39,18 +33,12 @@ returns c =
     let a = start .args in
     rw (c .enum-told .given .1, drop-nil (a .window .from), take-nil (a .window .n))
 
-same-length : tie.Need-same-length
-same-length c = search needs
-
 returns-2 : tie.Need-returns-2
 unfolding part
 returns-2 c =
     let at-do-rewrite = c .before .before in
     let at-enum-told2 = at-do-rewrite .before .before in
     at-do-rewrite .do-rewrite .ensures ∙ rw (at-enum-told2 .enum-told2 .given .1)
-
-same-length-2 : tie.Need-same-length-2
-same-length-2 c = search needs
 
 returns-3 : tie.Need-returns-3
 unfolding part
@@ -65,12 +53,12 @@ do-part-spec =
     tie.close
     (tie.spec
     enum-told
-    enum-told-2
+    (λ c. search needs)
     do-rewrite-requires
-    enum-told-3
+    (λ c. search needs)
     do-places-requires
     returns
-    same-length
+    (λ c. search needs)
     returns-2
-    same-length-2
+    (λ c. search needs)
     returns-3)

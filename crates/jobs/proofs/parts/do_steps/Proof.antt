@@ -6,17 +6,11 @@ use Rattle.jobs.proofs.ListedSteps.{listed-parts, listed-done}
 use Rattle.jobs.proofs.parts.do_steps.Statement.{statement}
 use Rattle.jobs.proofs.parts.do_steps.Tie as tie
 
-part-length-requires : tie.Need-part-length-requires
-part-length-requires c κs = search needs
-
 do-part-requires : tie.Need-do-part-requires
 do-part-requires c κs =
     let s = c .before .before .before .before .before .before .before in
     let a = s .args in
     (s .pre .0 .0, listed-parts (length (a .image .now)) (a .plan) (a .places .now) (a .window .from) (s .pre .1) .0)
-
-beyond-requires : tie.Need-beyond-requires
-beyond-requires c κs = search needs
 
 do-part-requires-2 : tie.Need-do-part-requires-2
 unfolding beyond
@@ -30,9 +24,6 @@ do-part-requires-2 c κs =
       rw (at-do-part .do-part .kept .0, at-beyond .beyond .ensures, at-part-length .part-length .ensures .0)
           (listed-parts (length (a .image .now)) (a .plan) (a .places .now) (a .window .from) (s .pre .1) .1),
     )
-
-same-length : tie.Need-same-length
-same-length c = search needs
 
 returns : tie.Need-returns
 returns c =
@@ -52,9 +43,9 @@ pub do-steps-spec : {M : Type 1} → statement M
 do-steps-spec =
     tie.close
     (tie.spec
-    part-length-requires
+    (λ c κs. search needs)
     do-part-requires
-    beyond-requires
+    (λ c κs. search needs)
     do-part-requires-2
-    same-length
+    (λ c. search needs)
     returns)

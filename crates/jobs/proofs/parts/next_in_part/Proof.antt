@@ -9,18 +9,6 @@ use Rattle.jobs.proofs.parts.next_in_part.Tie as tie
 enum-told : tie.Need-enum-told
 enum-told c = search needs
 
-enum-told-2 : tie.Need-enum-told-2
-enum-told-2 c = search needs
-
-next-in-rewrite-requires : tie.Need-next-in-rewrite-requires
-next-in-rewrite-requires c κs = search needs
-
-enum-told-3 : tie.Need-enum-told-3
-enum-told-3 c = search needs
-
-next-in-places-requires : tie.Need-next-in-places-requires
-next-in-places-requires c κs = search needs
-
 returns : tie.Need-returns
 unfolding part first-step
 returns c =
@@ -40,10 +28,10 @@ next-in-part-spec =
     tie.close
     (tie.spec
     enum-told
-    enum-told-2
-    next-in-rewrite-requires
-    enum-told-3
-    next-in-places-requires
+    (λ c. search needs)
+    (λ c κs. search needs)
+    (λ c. search needs)
+    (λ c κs. search needs)
     returns
     returns-2
     returns-3)

@@ -6,12 +6,6 @@ use Rattle.jobs.proofs.ListedSteps.{next-in-first, next-in-second}
 use Rattle.jobs.proofs.parts.next_of_parts.Statement.{statement}
 use Rattle.jobs.proofs.parts.next_of_parts.Tie as tie
 
-part-length-requires : tie.Need-part-length-requires
-part-length-requires c κs = search needs
-
-next-in-part-requires : tie.Need-next-in-part-requires
-next-in-part-requires c κs = search needs
-
 returns : tie.Need-returns
 returns c =
     let s = c .before .before .before .before .before .before .before in
@@ -20,9 +14,6 @@ returns c =
     ∙ sym (next-in-first (a .plan) (a .first .now) (a .second .now) (a .places .now) (a .value .now) (s .pre .0)
     (s .pre .1) (a .from)
     (omega arith))
-
-next-in-part-requires-2 : tie.Need-next-in-part-requires-2
-next-in-part-requires-2 c κs = search needs
 
 returns-2 : tie.Need-returns-2
 returns-2 c =
@@ -38,4 +29,4 @@ returns-2 c =
 pub next-of-parts-spec : {M : Type 1} → statement M
 next-of-parts-spec =
     tie.close
-    (tie.spec part-length-requires next-in-part-requires returns next-in-part-requires-2 returns-2)
+    (tie.spec (λ c κs. search needs) (λ c κs. search needs) returns (λ c κs. search needs) returns-2)

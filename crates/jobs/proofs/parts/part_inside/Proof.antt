@@ -8,18 +8,6 @@ use Rattle.jobs.proofs.parts.part_inside.Tie as tie
 enum-told : tie.Need-enum-told
 enum-told c = search needs
 
-enum-told-2 : tie.Need-enum-told-2
-enum-told-2 c = search needs
-
-is-inside-requires : tie.Need-is-inside-requires
-is-inside-requires c κs = search needs
-
-enum-told-3 : tie.Need-enum-told-3
-enum-told-3 c = search needs
-
-are-inside-requires : tie.Need-are-inside-requires
-are-inside-requires c κs = search needs
-
 returns : tie.Need-returns
 unfolding part-inside
 returns c = rw (c .enum-told .given .1)
@@ -37,10 +25,10 @@ part-inside-spec =
     tie.close
     (tie.spec
     enum-told
-    enum-told-2
-    is-inside-requires
-    enum-told-3
-    are-inside-requires
+    (λ c. search needs)
+    (λ c κs. search needs)
+    (λ c. search needs)
+    (λ c κs. search needs)
     returns
     returns-2
     returns-3)

@@ -4,18 +4,6 @@ use Rattle.jobs.specs.Inner.Parts.{listed-inside}
 use Rattle.jobs.proofs.parts.steps_inside.Statement.{statement}
 use Rattle.jobs.proofs.parts.steps_inside.Tie as tie
 
-part-length-requires : tie.Need-part-length-requires
-part-length-requires c κs = search needs
-
-less-requires : tie.Need-less-requires
-less-requires c κs = search needs
-
-part-inside-requires : tie.Need-part-inside-requires
-part-inside-requires c κs = search needs
-
-part-inside-requires-2 : tie.Need-part-inside-requires-2
-part-inside-requires-2 c κs = search needs
-
 returns : tie.Need-returns
 unfolding listed-inside
 returns c =
@@ -30,8 +18,8 @@ pub steps-inside-spec : {M : Type 1} → statement M
 steps-inside-spec =
     tie.close
     (tie.spec
-    part-length-requires
-    less-requires
-    part-inside-requires
-    part-inside-requires-2
+    (λ c κs. search needs)
+    (λ c κs. search needs)
+    (λ c κs. search needs)
+    (λ c κs. search needs)
     returns)

@@ -4,12 +4,9 @@ use Rattle.jobs.specs.Inner.Parts.{programs-inside}
 use Rattle.jobs.proofs.programs.are_inside.Statement.{statement}
 use Rattle.jobs.proofs.programs.are_inside.Tie as tie
 
-ends-by-requires : tie.Need-ends-by-requires
-ends-by-requires c κs = search needs
-
 returns : tie.Need-returns
 unfolding programs-inside
 returns c = rw (c .ends-by .ensures)
 
 pub are-inside-spec : {M : Type 1} → statement M
-are-inside-spec = tie.close (tie.spec ends-by-requires returns)
+are-inside-spec = tie.close (tie.spec (λ c κs. search needs) returns)

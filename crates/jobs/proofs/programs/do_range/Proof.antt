@@ -11,20 +11,11 @@ use Rattle.jobs.proofs.ProgramSteps.{programs-chosen, no-programs, byte
 use Rattle.jobs.proofs.programs.do_range.Statement.{statement}
 use Rattle.jobs.proofs.programs.do_range.Tie as tie
 
-beyond-requires : tie.Need-beyond-requires
-beyond-requires c κs = search needs
-
 returns : tie.Need-returns
 returns c =
     let at-beyond = c .before in
     let a = at-beyond .before .before .before .args in
     (at-beyond .beyond .ensures, λ g. no-programs (a .window) (a .at) (a .given .now) g (a .image .now) (c .if1 .taken))
-
-sub-least : tie.Need-sub-least
-sub-least c = search needs
-
-least-requires : tie.Need-least-requires
-least-requires c κs = search needs
 
 add-program : tie.Need-add-program
 add-program c =
@@ -36,18 +27,6 @@ add-program c =
           (omega arith),
     )
 
-add-program-2 : tie.Need-add-program-2
-add-program-2 c = search needs
-
-sub-program : tie.Need-sub-program
-sub-program c = search needs
-
-part-program-start : tie.Need-part-program-start
-part-program-start c = search needs
-
-part-program-end : tie.Need-part-program-end
-part-program-end c = search needs
-
 program-requires : tie.Need-program-requires
 program-requires c κs =
     let s = c .before .before .before .before .before .before .before in
@@ -55,9 +34,6 @@ program-requires c κs =
     let fits : a .at + length (a .given .now) ≤ length (a .image .now) =
     bytes-inside (length (a .image .now)) (a .at) (length (a .given .now)) (a .window .from) (s .pre) (omega arith) in
     simp (length-take, length-drop) (omega arith)
-
-same-length : tie.Need-same-length
-same-length c = search needs
 
 returns-2 : tie.Need-returns-2
 returns-2 c =
@@ -76,15 +52,15 @@ pub do-range-spec : {M : Type 1} → statement M
 do-range-spec =
     tie.close
     (tie.spec
-    beyond-requires
+    (λ c κs. search needs)
     returns
-    sub-least
-    least-requires
+    (λ c. search needs)
+    (λ c κs. search needs)
     add-program
-    add-program-2
-    sub-program
-    part-program-start
-    part-program-end
+    (λ c. search needs)
+    (λ c. search needs)
+    (λ c. search needs)
+    (λ c. search needs)
     program-requires
-    same-length
+    (λ c. search needs)
     returns-2)

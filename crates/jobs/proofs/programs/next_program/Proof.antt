@@ -11,16 +11,10 @@ returns c =
     let a = c .before .args in
     sym (next-none (a .at) (a .given .now) (a .from) (c .if1 .taken))
 
-add-t4 : tie.Need-add-t4
-add-t4 c = search needs
-
-shared-slice-read-t7 : tie.Need-shared-slice-read-t7
-shared-slice-read-t7 c = search needs
-
 returns-2 : tie.Need-returns-2
 returns-2 c =
     let a = c .before .before .args in
     sym (next-some (a .at) (a .given .now) (a .from) (omega arith))
 
 pub next-program-spec : {M : Type 1} → statement M
-next-program-spec = tie.close (tie.spec returns add-t4 shared-slice-read-t7 returns-2)
+next-program-spec = tie.close (tie.spec returns (λ c. search needs) (λ c. search needs) returns-2)

@@ -6,9 +6,6 @@ use Rattle.jobs.proofs.RewriteSteps.{no-erase, one-erase, erase-fits}
 use Rattle.jobs.proofs.rewriting.do_erase.Statement.{statement}
 use Rattle.jobs.proofs.rewriting.do_erase.Tie as tie
 
-beyond-requires : tie.Need-beyond-requires
-beyond-requires c κs = search needs
-
 returns : tie.Need-returns
 returns c =
     let at-beyond = c .before .before .before in
@@ -22,9 +19,6 @@ erase-requires c κs =
     let a = s .args in
     erase-fits (a .granule) (length (a .image .now)) (a .at) (a .window .from) (a .window .n) (s .pre) (at-if1 .if1 .left)
 
-same-length : tie.Need-same-length
-same-length c = search needs
-
 returns-2 : tie.Need-returns-2
 returns-2 c =
     let at-erase = c .before .before in
@@ -36,4 +30,4 @@ returns-2 c =
     )
 
 pub do-erase-spec : {M : Type 1} → statement M
-do-erase-spec = tie.close (tie.spec beyond-requires returns erase-requires same-length returns-2)
+do-erase-spec = tie.close (tie.spec (λ c κs. search needs) returns erase-requires (λ c. search needs) returns-2)

@@ -20,9 +20,6 @@ inside-by-parts : (s : tie.Start)
 inside-by-parts s =
     rewrite-parts (s .args .granule) (length (s .args .image .now)) (s .args .at) (s .args .window .from) (s .pre .1)
 
-slice-aggregate-do-range : tie.Need-slice-aggregate-do-range
-slice-aggregate-do-range c = search needs
-
 do-range-requires : tie.Need-do-range-requires
 do-range-requires c κs = inside-by-parts (c .before .before .before .before) .0
 
@@ -32,18 +29,6 @@ do-erase-requires c κs =
     let at-do-range = c .before .before .before in
     let s = at-do-range .before .before .before .before .before in
     rw (at-do-range .do-range .kept .0, at-do-range .do-range .ensures .0) (inside-by-parts s .1 .0)
-
-add-do-range : tie.Need-add-do-range
-add-do-range c = search needs
-
-sub-do-range : tie.Need-sub-do-range
-sub-do-range c = search needs
-
-part-do-range-start : tie.Need-part-do-range-start
-part-do-range-start c = search needs
-
-part-do-range-end : tie.Need-part-do-range-end
-part-do-range-end c = search needs
 
 do-range-requires-2 : tie.Need-do-range-requires-2
 unfolding beyond
@@ -94,9 +79,6 @@ do-range-requires-3 c κs =
     )
     (inside-by-parts s .1 .1 .1)
 
-same-length : tie.Need-same-length
-same-length c = search needs
-
 returns : tie.Need-returns
 returns c =
     let at-do-range3 = c .before .before in
@@ -118,15 +100,15 @@ pub do-rewrite-spec : {M : Type 1} → statement M
 do-rewrite-spec =
     tie.close
     (tie.spec
-    slice-aggregate-do-range
+    (λ c. search needs)
     do-range-requires
     do-erase-requires
-    add-do-range
-    sub-do-range
-    part-do-range-start
-    part-do-range-end
+    (λ c. search needs)
+    (λ c. search needs)
+    (λ c. search needs)
+    (λ c. search needs)
     do-range-requires-2
     slice-aggregate-do-range-2
     do-range-requires-3
-    same-length
+    (λ c. search needs)
     returns)

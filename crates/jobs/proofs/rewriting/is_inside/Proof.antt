@@ -4,30 +4,6 @@ use Rattle.jobs.specs.Inner.Parts.{rewrite-inside, erase-inside}
 use Rattle.jobs.proofs.rewriting.is_inside.Statement.{statement}
 use Rattle.jobs.proofs.rewriting.is_inside.Tie as tie
 
-less-requires : tie.Need-less-requires
-less-requires c κs = search needs
-
-less-requires-2 : tie.Need-less-requires-2
-less-requires-2 c κs = search needs
-
-are-inside-requires : tie.Need-are-inside-requires
-are-inside-requires c κs = search needs
-
-ends-by-requires : tie.Need-ends-by-requires
-ends-by-requires c κs = search needs
-
-add-are-inside : tie.Need-add-are-inside
-add-are-inside c = search needs
-
-are-inside-requires-2 : tie.Need-are-inside-requires-2
-are-inside-requires-2 c κs = search needs
-
-less-requires-3 : tie.Need-less-requires-3
-less-requires-3 c κs = search needs
-
-are-inside-requires-3 : tie.Need-are-inside-requires-3
-are-inside-requires-3 c κs = search needs
-
 returns : tie.Need-returns
 unfolding rewrite-inside erase-inside
 returns c =
@@ -50,12 +26,12 @@ pub is-inside-spec : {M : Type 1} → statement M
 is-inside-spec =
     tie.close
     (tie.spec
-    less-requires
-    less-requires-2
-    are-inside-requires
-    ends-by-requires
-    add-are-inside
-    are-inside-requires-2
-    less-requires-3
-    are-inside-requires-3
+    (λ c κs. search needs)
+    (λ c κs. search needs)
+    (λ c κs. search needs)
+    (λ c κs. search needs)
+    (λ c. search needs)
+    (λ c κs. search needs)
+    (λ c κs. search needs)
+    (λ c κs. search needs)
     returns)

@@ -9,9 +9,6 @@ use Rattle.jobs.proofs.RewriteSteps.{next-zero, next-erase, next-rest, 
 use Rattle.jobs.proofs.rewriting.next_in_rewrite.Statement.{statement}
 use Rattle.jobs.proofs.rewriting.next_in_rewrite.Tie as tie
 
-add-t6 : tie.Need-add-t6
-add-t6 c = search needs
-
 returns : tie.Need-returns
 returns c =
     let s = c .before .before in
@@ -23,24 +20,6 @@ returns-2 c =
     let s = c .before .before .before in
     let a = s .args in
     rw (c .if2 .taken) (sym (next-erase (a .at) (a .block .now) (s .pre .0)))
-
-sub-skip : tie.Need-sub-skip
-sub-skip c = search needs
-
-add-next-program : tie.Need-add-next-program
-add-next-program c = search needs
-
-sub-next-program : tie.Need-sub-next-program
-sub-next-program c = search needs
-
-part-next-program-start : tie.Need-part-next-program-start
-part-next-program-start c = search needs
-
-part-next-program-end : tie.Need-part-next-program-end
-part-next-program-end c = search needs
-
-next-program-requires : tie.Need-next-program-requires
-next-program-requires c κs = search needs
 
 returns-3 : tie.Need-returns-3
 returns-3 c =
@@ -68,15 +47,15 @@ pub next-in-rewrite-spec : {M : Type 1} → statement M
 next-in-rewrite-spec =
     tie.close
     (tie.spec
-    add-t6
+    (λ c. search needs)
     returns
     returns-2
-    sub-skip
-    add-next-program
-    sub-next-program
-    part-next-program-start
-    part-next-program-end
-    next-program-requires
+    (λ c. search needs)
+    (λ c. search needs)
+    (λ c. search needs)
+    (λ c. search needs)
+    (λ c. search needs)
+    (λ c κs. search needs)
     returns-3
     slice-aggregate-next-program
     next-program-requires-2

@@ -4,15 +4,6 @@ use Rattle.jobs.specs.Inner.Parts.{beyond}
 use Rattle.jobs.proofs.windows.beyond.Statement.{statement}
 use Rattle.jobs.proofs.windows.beyond.Tie as tie
 
-less-requires : tie.Need-less-requires
-less-requires c κs = search needs
-
-less-requires-2 : tie.Need-less-requires-2
-less-requires-2 c κs = search needs
-
-less-requires-3 : tie.Need-less-requires-3
-less-requires-3 c κs = search needs
-
 returns : tie.Need-returns
 unfolding beyond
 returns c =
@@ -20,4 +11,4 @@ returns c =
     rw (c .less3 .ensures, at-less2 .less2 .ensures, at-less2 .before .less .ensures)
 
 pub beyond-spec : {M : Type 1} → statement M
-beyond-spec = tie.close (tie.spec less-requires less-requires-2 less-requires-3 returns)
+beyond-spec = tie.close (tie.spec (λ c κs. search needs) (λ c κs. search needs) (λ c κs. search needs) returns)

@@ -7,33 +7,6 @@ use Rattle.linked.proofs.Numbered.{number-refused, kept-refused, number
 use Rattle.linked.proofs.inspects.delunkpawi_copies.Statement.{statement}
 use Rattle.linked.proofs.inspects.delunkpawi_copies.Tie as tie
 
-condition-of-requires : tie.Need-condition-of-requires
-condition-of-requires c κs = search needs
-
-enum-known-inspected : tie.Need-enum-known-inspected
-enum-known-inspected c = search needs
-
-enum-known-inspected-2 : tie.Need-enum-known-inspected-2
-enum-known-inspected-2 c = search needs
-
-bit-requires : tie.Need-bit-requires
-bit-requires c κs = search needs
-
-bit-requires-2 : tie.Need-bit-requires-2
-bit-requires-2 c κs = search needs
-
-bit-requires-3 : tie.Need-bit-requires-3
-bit-requires-3 c κs = search needs
-
-bit-requires-4 : tie.Need-bit-requires-4
-bit-requires-4 c κs = search needs
-
-bit-requires-5 : tie.Need-bit-requires-5
-bit-requires-5 c κs = search needs
-
-bit-requires-6 : tie.Need-bit-requires-6
-bit-requires-6 c κs = search needs
-
 returns : tie.Need-returns
 unfolding inspected
 returns c =
@@ -95,14 +68,14 @@ pub delunkpawi-copies-spec : {M : Type 1} → statement M
 delunkpawi-copies-spec =
     tie.close
     (tie.spec
-    condition-of-requires
-    enum-known-inspected
-    enum-known-inspected-2
-    bit-requires
-    bit-requires-2
-    bit-requires-3
-    bit-requires-4
-    bit-requires-5
-    bit-requires-6
+    (λ c κs. search needs)
+    (λ c. search needs)
+    (λ c. search needs)
+    (λ c κs. search needs)
+    (λ c κs. search needs)
+    (λ c κs. search needs)
+    (λ c κs. search needs)
+    (λ c κs. search needs)
+    (λ c κs. search needs)
     returns
     returns-2)

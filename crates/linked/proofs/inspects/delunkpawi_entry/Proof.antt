@@ -12,18 +12,6 @@ use Rattle.linked.proofs.NamedEntries.{entry-refused, entry-name-too-lo
 use Rattle.linked.proofs.inspects.delunkpawi_entry.Statement.{statement}
 use Rattle.linked.proofs.inspects.delunkpawi_entry.Tie as tie
 
-entry-info-requires : tie.Need-entry-info-requires
-entry-info-requires c κs = search needs
-
-enum-known-known : tie.Need-enum-known-known
-enum-known-known c = search needs
-
-enum-known-known-2 : tie.Need-enum-known-known-2
-enum-known-known-2 c = search needs
-
-entry-name-requires : tie.Need-entry-name-requires
-entry-name-requires c κs = search needs
-
 returns : tie.Need-returns
 unfolding known
 returns c =
@@ -37,9 +25,6 @@ returns c =
     (rw (← named .entry-name .ensures) (c .if1 .taken)) in
     entry-kept (a .name .now) (a .count .now) (a .start .now) (a .size .now) (a .flags .now) e
 
-put-bytes-requires : tie.Need-put-bytes-requires
-put-bytes-requires c κs = search needs
-
 returns-2 : tie.Need-returns-2
 unfolding known
 returns-2 c =
@@ -49,9 +34,6 @@ returns-2 c =
     let e = entry-refused s (a .image .now) (a .entry) (length (a .name .now))
     (sym (ap known (c .before .known .given .1)) ∙ called .entry-info .ensures) in
     entry-kept (a .name .now) (a .count .now) (a .start .now) (a .size .now) (a .flags .now) e
-
-same-length : tie.Need-same-length
-same-length c = search needs
 
 returns-3 : tie.Need-returns-3
 unfolding known
@@ -87,12 +69,12 @@ pub delunkpawi-entry-spec : {M : Type 1} → statement M
 delunkpawi-entry-spec =
     tie.close
     (tie.spec
-    entry-info-requires
-    enum-known-known
-    enum-known-known-2
-    entry-name-requires
+    (λ c κs. search needs)
+    (λ c. search needs)
+    (λ c. search needs)
+    (λ c κs. search needs)
     returns
-    put-bytes-requires
+    (λ c κs. search needs)
     returns-2
-    same-length
+    (λ c. search needs)
     returns-3)

@@ -7,21 +7,6 @@ use Rattle.linked.proofs.Numbered.{number-refused, kept-refused, number
 use Rattle.linked.proofs.inspects.delunkpawi_place.Statement.{statement}
 use Rattle.linked.proofs.inspects.delunkpawi_place.Tie as tie
 
-place-at-requires : tie.Need-place-at-requires
-place-at-requires c κs = search needs
-
-enum-known-holding : tie.Need-enum-known-holding
-enum-known-holding c = search needs
-
-enum-known-holding-2 : tie.Need-enum-known-holding-2
-enum-known-holding-2 c = search needs
-
-kind-of-requires : tie.Need-kind-of-requires
-kind-of-requires c κs = search needs
-
-slot-of-requires : tie.Need-slot-of-requires
-slot-of-requires c κs = search needs
-
 returns : tie.Need-returns
 unfolding holding
 returns c =
@@ -59,10 +44,10 @@ pub delunkpawi-place-spec : {M : Type 1} → statement M
 delunkpawi-place-spec =
     tie.close
     (tie.spec
-    place-at-requires
-    enum-known-holding
-    enum-known-holding-2
-    kind-of-requires
-    slot-of-requires
+    (λ c κs. search needs)
+    (λ c. search needs)
+    (λ c. search needs)
+    (λ c κs. search needs)
+    (λ c κs. search needs)
     returns
     returns-2)

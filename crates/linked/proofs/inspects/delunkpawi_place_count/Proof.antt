@@ -6,15 +6,6 @@ use Rattle.linked.proofs.Numbered.{number-refused, kept-refused, number
 use Rattle.linked.proofs.inspects.delunkpawi_place_count.Statement.{statement}
 use Rattle.linked.proofs.inspects.delunkpawi_place_count.Tie as tie
 
-place-total-requires : tie.Need-place-total-requires
-place-total-requires c κs = search needs
-
-enum-known-total : tie.Need-enum-known-total
-enum-known-total c = search needs
-
-enum-known-total-2 : tie.Need-enum-known-total-2
-enum-known-total-2 c = search needs
-
 returns : tie.Need-returns
 unfolding totalled
 returns c =
@@ -33,8 +24,8 @@ pub delunkpawi-place-count-spec : {M : Type 1} → statement M
 delunkpawi-place-count-spec =
     tie.close
     (tie.spec
-    place-total-requires
-    enum-known-total
-    enum-known-total-2
+    (λ c κs. search needs)
+    (λ c. search needs)
+    (λ c. search needs)
     returns
     returns-2)

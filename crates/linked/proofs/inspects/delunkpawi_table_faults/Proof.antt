@@ -6,15 +6,6 @@ use Rattle.linked.proofs.Numbered.{number-refused, kept-refused, number
 use Rattle.linked.proofs.inspects.delunkpawi_table_faults.Statement.{statement}
 use Rattle.linked.proofs.inspects.delunkpawi_table_faults.Tie as tie
 
-table-faults-requires : tie.Need-table-faults-requires
-table-faults-requires c κs = search needs
-
-enum-known-faults : tie.Need-enum-known-faults
-enum-known-faults c = search needs
-
-enum-known-faults-2 : tie.Need-enum-known-faults-2
-enum-known-faults-2 c = search needs
-
 returns : tie.Need-returns
 unfolding faulted
 returns c =
@@ -58,8 +49,8 @@ pub delunkpawi-table-faults-spec : {M : Type 1} → statement M
 delunkpawi-table-faults-spec =
     tie.close
     (tie.spec
-    table-faults-requires
-    enum-known-faults
-    enum-known-faults-2
+    (λ c κs. search needs)
+    (λ c. search needs)
+    (λ c. search needs)
     returns
     returns-2)

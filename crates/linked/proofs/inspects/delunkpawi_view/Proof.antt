@@ -6,15 +6,6 @@ use Rattle.linked.proofs.Numbered.{number-refused, kept-refused, number
 use Rattle.linked.proofs.inspects.delunkpawi_view.Statement.{statement}
 use Rattle.linked.proofs.inspects.delunkpawi_view.Tie as tie
 
-view-requires : tie.Need-view-requires
-view-requires c κs = search needs
-
-enum-known-seen : tie.Need-enum-known-seen
-enum-known-seen c = search needs
-
-enum-known-seen-2 : tie.Need-enum-known-seen-2
-enum-known-seen-2 c = search needs
-
 returns : tie.Need-returns
 unfolding viewed
 returns c =
@@ -57,8 +48,8 @@ pub delunkpawi-view-spec : {M : Type 1} → statement M
 delunkpawi-view-spec =
     tie.close
     (tie.spec
-    view-requires
-    enum-known-seen
-    enum-known-seen-2
+    (λ c κs. search needs)
+    (λ c. search needs)
+    (λ c. search needs)
     returns
     returns-2)

@@ -9,18 +9,6 @@ use Rattle.linked.proofs.Numbered.{number-refused, kept-refused, number
 use Rattle.linked.proofs.reads.delunkpawi_order.Statement.{statement}
 use Rattle.linked.proofs.reads.delunkpawi_order.Tie as tie
 
-order-list-requires : tie.Need-order-list-requires
-order-list-requires c κs = search needs
-
-enum-known-listed : tie.Need-enum-known-listed
-enum-known-listed c = search needs
-
-enum-known-listed-2 : tie.Need-enum-known-listed-2
-enum-known-listed-2 c = search needs
-
-same-length : tie.Need-same-length
-same-length c = search needs
-
 returns : tie.Need-returns
 unfolding listed
 returns c =
@@ -33,9 +21,6 @@ returns c =
       row-left = at-order-list .ensures .1;
       count-left = kept-refused length (a .count .now) e;
     }
-
-same-length-2 : tie.Need-same-length-2
-same-length-2 c = search needs
 
 returns-2 : tie.Need-returns-2
 unfolding listed
@@ -54,10 +39,10 @@ pub delunkpawi-order-spec : {M : Type 1} → statement M
 delunkpawi-order-spec =
     tie.close
     (tie.spec
-    order-list-requires
-    enum-known-listed
-    enum-known-listed-2
-    same-length
+    (λ c κs. search needs)
+    (λ c. search needs)
+    (λ c. search needs)
+    (λ c. search needs)
     returns
-    same-length-2
+    (λ c. search needs)
     returns-2)

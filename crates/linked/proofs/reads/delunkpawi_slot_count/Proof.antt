@@ -6,15 +6,6 @@ use Rattle.linked.proofs.Numbered.{number-refused, kept-refused, number
 use Rattle.linked.proofs.reads.delunkpawi_slot_count.Statement.{statement}
 use Rattle.linked.proofs.reads.delunkpawi_slot_count.Tie as tie
 
-slot-count-requires : tie.Need-slot-count-requires
-slot-count-requires c κs = search needs
-
-enum-known-counted : tie.Need-enum-known-counted
-enum-known-counted c = search needs
-
-enum-known-counted-2 : tie.Need-enum-known-counted-2
-enum-known-counted-2 c = search needs
-
 returns : tie.Need-returns
 unfolding counted
 returns c =
@@ -30,4 +21,4 @@ returns-2 c =
 pub delunkpawi-slot-count-spec : {M : Type 1} → statement M
 delunkpawi-slot-count-spec =
     tie.close
-    (tie.spec slot-count-requires enum-known-counted enum-known-counted-2 returns returns-2)
+    (tie.spec (λ c κs. search needs) (λ c. search needs) (λ c. search needs) returns returns-2)

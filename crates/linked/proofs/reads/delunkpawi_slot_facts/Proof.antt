@@ -6,15 +6,6 @@ use Rattle.linked.proofs.Numbered.{number-refused, kept-refused, number
 use Rattle.linked.proofs.reads.delunkpawi_slot_facts.Statement.{statement}
 use Rattle.linked.proofs.reads.delunkpawi_slot_facts.Tie as tie
 
-slot-facts-requires : tie.Need-slot-facts-requires
-slot-facts-requires c κs = search needs
-
-enum-known-known : tie.Need-enum-known-known
-enum-known-known c = search needs
-
-enum-known-known-2 : tie.Need-enum-known-known-2
-enum-known-known-2 c = search needs
-
 returns : tie.Need-returns
 unfolding known
 returns c =
@@ -47,4 +38,4 @@ returns-2 c =
 
 pub delunkpawi-slot-facts-spec : {M : Type 1} → statement M
 delunkpawi-slot-facts-spec =
-    tie.close (tie.spec slot-facts-requires enum-known-known enum-known-known-2 returns returns-2)
+    tie.close (tie.spec (λ c κs. search needs) (λ c. search needs) (λ c. search needs) returns returns-2)

@@ -11,17 +11,8 @@ use Rattle.linked.proofs.Named.{name-refused, name-too-long, name-given
 use Rattle.linked.proofs.reads.delunkpawi_slot_name.Statement.{statement}
 use Rattle.linked.proofs.reads.delunkpawi_slot_name.Tie as tie
 
-slot-facts-requires : tie.Need-slot-facts-requires
-slot-facts-requires c κs = search needs
-
-enum-known-known : tie.Need-enum-known-known
-enum-known-known c = search needs
-
 enum-told : tie.Need-enum-told
 enum-told c = search needs
-
-slot-name-requires : tie.Need-slot-name-requires
-slot-name-requires c κs = search needs
 
 returns : tie.Need-returns
 unfolding known
@@ -32,9 +23,6 @@ returns c =
     written-refused (a .name .now) (a .count .now)
     (name-too-long s (a .image .now) (a .slot) (length (a .name .now)) f (rw (← c .before .slot-name .ensures) (c .if1 .taken)))
 
-put-bytes-requires : tie.Need-put-bytes-requires
-put-bytes-requires c κs = search needs
-
 returns-2 : tie.Need-returns-2
 unfolding known
 returns-2 c =
@@ -42,9 +30,6 @@ returns-2 c =
     let s = setting (a .granule) (a .spt0) (a .spt1) in
     let f = sym (ap known (c .before .known .given .1)) ∙ c .before .before .before .slot-facts .ensures in
     written-refused (a .name .now) (a .count .now) (name-refused s (a .image .now) (a .slot) (length (a .name .now)) f)
-
-same-length : tie.Need-same-length
-same-length c = search needs
 
 returns-3 : tie.Need-returns-3
 unfolding known
@@ -69,12 +54,12 @@ pub delunkpawi-slot-name-spec : {M : Type 1} → statement M
 delunkpawi-slot-name-spec =
     tie.close
     (tie.spec
-    slot-facts-requires
-    enum-known-known
+    (λ c κs. search needs)
+    (λ c. search needs)
     enum-told
-    slot-name-requires
+    (λ c κs. search needs)
     returns
-    put-bytes-requires
+    (λ c κs. search needs)
     returns-2
-    same-length
+    (λ c. search needs)
     returns-3)

@@ -5,12 +5,6 @@ use Rattle.linked.proofs.AfterCount.{count-malformed, count-refused, co
 use Rattle.linked.proofs.runs.delunkpawi_advance.Statement.{statement}
 use Rattle.linked.proofs.runs.delunkpawi_advance.Tie as tie
 
-is-job-requires : tie.Need-is-job-requires
-is-job-requires c κs = search needs
-
-same-length : tie.Need-same-length
-same-length c = search needs
-
 returns : tie.Need-returns
 returns c =
     let t = c .before .is-job in
@@ -25,15 +19,6 @@ advance-requires c κs =
     let a = at-if1 .before .before .before .before .args in
     holds-one (a .job .now) (t .result) (t .ensures) (at-if1 .if1 .left)
 
-enum-known-did : tie.Need-enum-known-did
-enum-known-did c = search needs
-
-enum-known-did-2 : tie.Need-enum-known-did-2
-enum-known-did-2 c = search needs
-
-same-length-2 : tie.Need-same-length-2
-same-length-2 c = search needs
-
 returns-2 : tie.Need-returns-2
 returns-2 c =
     let at-did = c .before in
@@ -44,9 +29,6 @@ returns-2 c =
     count-refused (a .job .now) (at-advance .advance .last .0) (a .steps) (a .count .now)
     (job-held (a .job .now) (t .result) (t .ensures) (at-if1 .if1 .left)) (at-advance .advance .result)
     (at-advance .advance .ensures) (at-did .did .given .1)
-
-same-length-3 : tie.Need-same-length-3
-same-length-3 c = search needs
 
 returns-3 : tie.Need-returns-3
 returns-3 c =
@@ -63,13 +45,13 @@ pub delunkpawi-advance-spec : {M : Type 1} → statement M
 delunkpawi-advance-spec =
     tie.close
     (tie.spec
-    is-job-requires
-    same-length
+    (λ c κs. search needs)
+    (λ c. search needs)
     returns
     advance-requires
-    enum-known-did
-    enum-known-did-2
-    same-length-2
+    (λ c. search needs)
+    (λ c. search needs)
+    (λ c. search needs)
     returns-2
-    same-length-3
+    (λ c. search needs)
     returns-3)

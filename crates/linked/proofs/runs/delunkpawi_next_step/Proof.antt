@@ -9,9 +9,6 @@ use Rattle.linked.proofs.Held.{holds-none, holds-one, job-held}
 use Rattle.linked.proofs.runs.delunkpawi_next_step.Statement.{statement}
 use Rattle.linked.proofs.runs.delunkpawi_next_step.Tie as tie
 
-is-job-requires : tie.Need-is-job-requires
-is-job-requires c κs = search needs
-
 returns : tie.Need-returns
 returns c =
     let t = c .before .is-job in
@@ -32,15 +29,6 @@ next-step-requires c κs =
     let t = c .before .is-job in
     let a = c .before .before .before .args in
     length-of-job (a .job .now) (holds-one (a .job .now) (t .result) (t .ensures) (c .if1 .left))
-
-kind-of-requires : tie.Need-kind-of-requires
-kind-of-requires c κs = search needs
-
-address-of-requires : tie.Need-address-of-requires
-address-of-requires c κs = search needs
-
-byte-of-requires : tie.Need-byte-of-requires
-byte-of-requires c κs = search needs
 
 returns-2 : tie.Need-returns-2
 returns-2 c =
@@ -64,10 +52,10 @@ pub delunkpawi-next-step-spec : {M : Type 1} → statement M
 delunkpawi-next-step-spec =
     tie.close
     (tie.spec
-    is-job-requires
+    (λ c κs. search needs)
     returns
     next-step-requires
-    kind-of-requires
-    address-of-requires
-    byte-of-requires
+    (λ c κs. search needs)
+    (λ c κs. search needs)
+    (λ c κs. search needs)
     returns-2)

@@ -8,9 +8,6 @@ use Rattle.linked.proofs.Held.{holds-none, holds-one, job-held}
 use Rattle.linked.proofs.runs.delunkpawi_remaining.Statement.{statement}
 use Rattle.linked.proofs.runs.delunkpawi_remaining.Tie as tie
 
-is-job-requires : tie.Need-is-job-requires
-is-job-requires c κs = search needs
-
 returns : tie.Need-returns
 returns c =
     let t = c .before .is-job in
@@ -33,4 +30,4 @@ returns-2 c =
 
 pub delunkpawi-remaining-spec : {M : Type 1} → statement M
 delunkpawi-remaining-spec =
-    tie.close (tie.spec is-job-requires returns remaining-requires returns-2)
+    tie.close (tie.spec (λ c κs. search needs) returns remaining-requires returns-2)

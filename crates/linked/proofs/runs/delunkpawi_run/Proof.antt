@@ -5,12 +5,6 @@ use Rattle.linked.proofs.AfterRun.{run-malformed, run-refused, run-went
 use Rattle.linked.proofs.runs.delunkpawi_run.Statement.{statement}
 use Rattle.linked.proofs.runs.delunkpawi_run.Tie as tie
 
-is-job-requires : tie.Need-is-job-requires
-is-job-requires c κs = search needs
-
-same-length : tie.Need-same-length
-same-length c = search needs
-
 returns : tie.Need-returns
 returns c =
     let t = c .before .is-job in
@@ -25,18 +19,6 @@ run-requires c κs =
     let a = at-if1 .before .before .before .before .before .args in
     holds-one (a .job .now) (t .result) (t .ensures) (at-if1 .if1 .left)
 
-enum-known-did : tie.Need-enum-known-did
-enum-known-did c = search needs
-
-enum-known-did-2 : tie.Need-enum-known-did-2
-enum-known-did-2 c = search needs
-
-same-length-2 : tie.Need-same-length-2
-same-length-2 c = search needs
-
-same-length-3 : tie.Need-same-length-3
-same-length-3 c = search needs
-
 returns-2 : tie.Need-returns-2
 returns-2 c =
     let at-did = c .before in
@@ -48,12 +30,6 @@ returns-2 c =
     run-refused (a .job .now) (a .image .now) (ran .last .0) (ran .last .1 .0) (a .budget)
     (a .done .now) (job-held (a .job .now) (t .result) (t .ensures) (at-if1 .if1 .left)) _ (ran .result)
     (at-did .did .given .1) (ran .ensures)
-
-same-length-4 : tie.Need-same-length-4
-same-length-4 c = search needs
-
-same-length-5 : tie.Need-same-length-5
-same-length-5 c = search needs
 
 returns-3 : tie.Need-returns-3
 returns-3 c =
@@ -71,15 +47,15 @@ pub delunkpawi-run-spec : {M : Type 1} → statement M
 delunkpawi-run-spec =
     tie.close
     (tie.spec
-    is-job-requires
-    same-length
+    (λ c κs. search needs)
+    (λ c. search needs)
     returns
     run-requires
-    enum-known-did
-    enum-known-did-2
-    same-length-2
-    same-length-3
+    (λ c. search needs)
+    (λ c. search needs)
+    (λ c. search needs)
+    (λ c. search needs)
     returns-2
-    same-length-4
-    same-length-5
+    (λ c. search needs)
+    (λ c. search needs)
     returns-3)

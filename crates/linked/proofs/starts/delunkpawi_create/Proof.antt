@@ -4,15 +4,9 @@ use Rattle.commands.specs.Begins.{command-of}
 use Rattle.linked.proofs.starts.delunkpawi_create.Statement.{statement}
 use Rattle.linked.proofs.starts.delunkpawi_create.Tie as tie
 
-start-into-requires : tie.Need-start-into-requires
-start-into-requires c κs = search needs
-
-same-length : tie.Need-same-length
-same-length c = search needs
-
 returns : tie.Need-returns
 unfolding command-of
 returns c = c .before .before .start-into .ensures
 
 pub delunkpawi-create-spec : {M : Type 1} → statement M
-delunkpawi-create-spec = tie.close (tie.spec start-into-requires same-length returns)
+delunkpawi-create-spec = tie.close (tie.spec (λ c κs. search needs) (λ c. search needs) returns)

@@ -4,18 +4,9 @@ use Rattle.commands.specs.Begins.{command-of}
 use Rattle.linked.proofs.starts.delunkpawi_disable.Statement.{statement}
 use Rattle.linked.proofs.starts.delunkpawi_disable.Tie as tie
 
-slice-aggregate-start-into : tie.Need-slice-aggregate-start-into
-slice-aggregate-start-into c = search needs
-
-start-into-requires : tie.Need-start-into-requires
-start-into-requires c κs = search needs
-
-same-length : tie.Need-same-length
-same-length c = search needs
-
 returns : tie.Need-returns
 unfolding command-of
 returns c = c .before .before .start-into .ensures
 
 pub delunkpawi-disable-spec : {M : Type 1} → statement M
-delunkpawi-disable-spec = tie.close (tie.spec slice-aggregate-start-into start-into-requires same-length returns)
+delunkpawi-disable-spec = tie.close (tie.spec (λ c. search needs) (λ c κs. search needs) (λ c. search needs) returns)

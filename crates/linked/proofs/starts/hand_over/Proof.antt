@@ -4,21 +4,12 @@ use Rattle.linked.specs.Begun.{handed-over}
 use Rattle.linked.proofs.starts.hand_over.Statement.{statement}
 use Rattle.linked.proofs.starts.hand_over.Tie as tie
 
-enum-known-answer : tie.Need-enum-known-answer
-enum-known-answer c = search needs
-
 enum-told : tie.Need-enum-told
 enum-told c = search needs
-
-encode-requires : tie.Need-encode-requires
-encode-requires c κs = search needs
 
 returns : tie.Need-returns
 unfolding handed-over
 returns c = rw (c .before .answer .given .1)
-
-same-length : tie.Need-same-length
-same-length c = search needs
 
 returns-2 : tie.Need-returns-2
 unfolding handed-over
@@ -27,4 +18,4 @@ returns-2 c =
 
 pub hand-over-spec : {M : Type 1} → statement M
 hand-over-spec =
-    tie.close (tie.spec enum-known-answer enum-told encode-requires returns same-length returns-2)
+    tie.close (tie.spec (λ c. search needs) enum-told (λ c κs. search needs) returns (λ c. search needs) returns-2)

@@ -12,15 +12,6 @@ returns c =
     other-length (a .job .now)
     (start-result (a .setting) (a .image .now) (command-of (a .command) (a .name .now))) (c .if1 .taken)
 
-start-requires : tie.Need-start-requires
-start-requires c κs = search needs
-
-hand-over-requires : tie.Need-hand-over-requires
-hand-over-requires c κs = search needs
-
-same-length : tie.Need-same-length
-same-length c = search needs
-
 returns-2 : tie.Need-returns-2
 returns-2 c =
     let at-hand-over = c .before .before in
@@ -33,4 +24,4 @@ returns-2 c =
     (at-if1 .if1 .left) (at-start .start .ensures) (at-hand-over .hand-over .ensures)
 
 pub start-into-spec : {M : Type 1} → statement M
-start-into-spec = tie.close (tie.spec returns start-requires hand-over-requires same-length returns-2)
+start-into-spec = tie.close (tie.spec returns (λ c κs. search needs) (λ c κs. search needs) (λ c. search needs) returns-2)

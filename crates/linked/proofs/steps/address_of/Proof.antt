@@ -7,15 +7,6 @@ use Rattle.linked.proofs.steps.address_of.Tie as tie
 enum-told : tie.Need-enum-told
 enum-told c = search needs
 
-enum-known-next : tie.Need-enum-known-next
-enum-known-next c = search needs
-
-enum-known-s : tie.Need-enum-known-s
-enum-known-s c = search needs
-
-enum-known-s-2 : tie.Need-enum-known-s-2
-enum-known-s-2 c = search needs
-
 returns : tie.Need-returns
 unfolding step-address
 returns c = rw (c .enum-told .given .1)
@@ -31,4 +22,4 @@ returns-3 c = rw (c .before .before .before .before .next .given .1, c .before .
 pub address-of-spec : {M : Type 1} → statement M
 address-of-spec =
     tie.close
-    (tie.spec enum-told enum-known-next enum-known-s enum-known-s-2 returns returns-2 returns-3)
+    (tie.spec enum-told (λ c. search needs) (λ c. search needs) (λ c. search needs) returns returns-2 returns-3)

@@ -8,9 +8,6 @@ use Rattle.places.proofs.order.growth_of.Tie as tie
 enum-told : tie.Need-enum-told
 enum-told c = search needs
 
-enum-told-2 : tie.Need-enum-told-2
-enum-told-2 c = search needs
-
 returns : tie.Need-returns
 unfolding growth
 returns c = rw (c .enum-told .given .1) (omega arith, omega arith)
@@ -20,4 +17,4 @@ unfolding growth
 returns-2 c = rw (c .enum-told2 .given .1) (omega arith, omega arith)
 
 pub growth-of-spec : {M : Type 1} → statement M
-growth-of-spec = tie.close (tie.spec enum-told enum-told-2 returns returns-2)
+growth-of-spec = tie.close (tie.spec enum-told (λ c. search needs) returns returns-2)

@@ -22,9 +22,6 @@ abbrev μ-loop : tie.MeasureT-loop
 left : (c : tie.In-loop Inv-loop μ-loop) → 0 < c .before .loop .k
 left c = places-left (c .before .loop .k) _ (c .loop-test .taken)
 
-slot-total-requires : tie.Need-slot-total-requires Inv-loop μ-loop
-slot-total-requires c κs = search needs
-
 loop-holds : tie.Need-loop-holds Inv-loop μ-loop
 loop-holds c =
     let start = c .before .before .before in
@@ -40,9 +37,6 @@ added-by-requires c κs =
     let start = at .before .before .before .before in
     let a = start .args in
     (start .pre .0, (start .pre .1, omega (arith, left c, count-is (a .p .now) (a .places) (start .pre .1))))
-
-growth-of-requires : tie.Need-growth-of-requires Inv-loop μ-loop
-growth-of-requires c κs = search needs
 
 add-len : tie.Need-add-len Inv-loop μ-loop
 add-len c =
@@ -79,11 +73,11 @@ order-length-spec =
     (tie.spec
     Inv-loop
     μ-loop
-    slot-total-requires
+    (λ c κs. search needs)
     loop-holds
     sub-k
     added-by-requires
-    growth-of-requires
+    (λ c κs. search needs)
     add-len
     loop-less
     loop-again

@@ -6,21 +6,12 @@ use Rattle.places.specs.Inner.Added.{growth, stored}
 use Rattle.places.proofs.order.store.Statement.{statement}
 use Rattle.places.proofs.order.store.Tie as tie
 
-enum-known-added : tie.Need-enum-known-added
-enum-known-added c = search needs
-
-mul-row : tie.Need-mul-row
-mul-row c = search needs
-
 slice-write-row : tie.Need-slice-write-row
 unfolding growth
 slice-write-row c = omega (arith, ap growth (c .before .added .given .1))
 
 enum-told : tie.Need-enum-told
 enum-told c = search needs
-
-same-length : tie.Need-same-length
-same-length c = search needs
 
 returns : tie.Need-returns
 unfolding stored
@@ -33,4 +24,4 @@ returns-2 c = rw (c .enum-told .given .1)
 pub store-spec : {M : Type 1} → statement M
 store-spec =
     tie.close
-    (tie.spec enum-known-added mul-row slice-write-row enum-told same-length returns returns-2)
+    (tie.spec (λ c. search needs) (λ c. search needs) slice-write-row enum-told (λ c. search needs) returns returns-2)

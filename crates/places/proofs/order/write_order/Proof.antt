@@ -25,9 +25,6 @@ abbrev μ-loop : tie.MeasureT-loop
 left : (c : tie.In-loop Inv-loop μ-loop) → 0 < c .before .loop .k
 left c = places-left (c .before .loop .k) _ (c .loop-test .taken)
 
-slot-total-requires : tie.Need-slot-total-requires Inv-loop μ-loop
-slot-total-requires c κs = search needs
-
 loop-holds : tie.Need-loop-holds Inv-loop μ-loop
 loop-holds c =
     let start = c .before .before .before .before in
@@ -59,9 +56,6 @@ store-requires c κs =
     let down = met-down slots (a .p .now) (at .loop .k) (left test) (omega arith) (at .loop .at) (at .loop .inv .0) in
     let grows = order-grows slots (places (a .p .now)) (at .loop .k - 1) in
     rw (added .added-by .ensures) (omega (arith, start .pre .1, at .loop .inv .1 .0))
-
-growth-of-requires : tie.Need-growth-of-requires Inv-loop μ-loop
-growth-of-requires c κs = search needs
 
 add-at : tie.Need-add-at Inv-loop μ-loop
 add-at c =
@@ -111,12 +105,12 @@ write-order-spec =
     (tie.spec
     Inv-loop
     μ-loop
-    slot-total-requires
+    (λ c κs. search needs)
     loop-holds
     sub-k
     added-by-requires
     store-requires
-    growth-of-requires
+    (λ c κs. search needs)
     add-at
     loop-less
     loop-again

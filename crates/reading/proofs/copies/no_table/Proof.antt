@@ -8,18 +8,6 @@ use Rattle.reading.proofs.Views.{some-magic, no-magic}
 use Rattle.reading.proofs.copies.no_table.Statement.{statement}
 use Rattle.reading.proofs.copies.no_table.Tie as tie
 
-table-fault-requires : tie.Need-table-fault-requires
-table-fault-requires c κs = search needs
-
-table-fault-requires-2 : tie.Need-table-fault-requires-2
-table-fault-requires-2 c κs = search needs
-
-magic-right-requires : tie.Need-magic-right-requires
-magic-right-requires c κs = search needs
-
-magic-right-requires-2 : tie.Need-magic-right-requires-2
-magic-right-requires-2 c κs = search needs
-
 returns : tie.Need-returns
 returns c =
     let m1 = c .before in
@@ -42,9 +30,9 @@ pub no-table-spec : {M : Type 1} → statement M
 no-table-spec =
     tie.close
     (tie.spec
-    table-fault-requires
-    table-fault-requires-2
-    magic-right-requires
-    magic-right-requires-2
+    (λ c κs. search needs)
+    (λ c κs. search needs)
+    (λ c κs. search needs)
+    (λ c κs. search needs)
     returns
     returns-2)

@@ -33,20 +33,8 @@ has-entries c = record {
   few = rw (c .entry-count .ensures, c .before .block-at .ensures .0) (c .before .before .before .pre .count-right);
 }
 
-block-at-requires : tie.Need-block-at-requires
-block-at-requires c κs = search needs
-
-entry-count-requires : tie.Need-entry-count-requires
-entry-count-requires c κs = search needs
-
-slice-aggregate-named-start : tie.Need-slice-aggregate-named-start
-slice-aggregate-named-start c = search needs
-
 named-start-requires : tie.Need-named-start-requires
 named-start-requires c κs = has-entries (c .before)
-
-slice-aggregate-named-start-2 : tie.Need-slice-aggregate-named-start-2
-slice-aggregate-named-start-2 c = search needs
 
 named-start-requires-2 : tie.Need-named-start-requires-2
 named-start-requires-2 c κs = has-entries (c .before .before .before)
@@ -102,11 +90,11 @@ pub view-through-spec : {M : Type 1} → statement M
 view-through-spec =
     tie.close
     (tie.spec
-    block-at-requires
-    entry-count-requires
-    slice-aggregate-named-start
+    (λ c κs. search needs)
+    (λ c κs. search needs)
+    (λ c. search needs)
     named-start-requires
-    slice-aggregate-named-start-2
+    (λ c. search needs)
     named-start-requires-2
     pointers-stand-requires
     returns

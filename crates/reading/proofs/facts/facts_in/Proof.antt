@@ -25,15 +25,9 @@ counted c =
     let a = c .before .before .before .before .args in
     omega (arith, row-counted (a .n) (a .t .now) (a .slot .0) (c .slot-row .result .0) (there c) (c .slot-row .ensures .0))
 
-slot-there-requires : tie.Need-slot-there-requires
-slot-there-requires c κs = search needs
-
 returns : tie.Need-returns
 unfolding known unless
 returns c = rw (failed (c .before .slot-there .ensures) (c .if1 .taken))
-
-slot-row-requires : tie.Need-slot-row-requires
-slot-row-requires c κs = search needs
 
 entry-start-requires : tie.Need-entry-start-requires
 entry-start-requires c κs = (c .before .before .before .before .pre .whole, counted c)
@@ -61,9 +55,9 @@ pub facts-in-spec : {M : Type 1} → statement M
 facts-in-spec =
     tie.close
     (tie.spec
-    slot-there-requires
+    (λ c κs. search needs)
     returns
-    slot-row-requires
+    (λ c κs. search needs)
     entry-start-requires
     entry-size-requires
     entry-flags-requires

@@ -18,18 +18,9 @@ there : (c : tie.After-slot-row)
     slot-there (rows (a .n) (a .t .now)) (a .slot .0) ≡ true
 there c = passed (c .before .before .slot-there .ensures) (c .before .if1 .left)
 
-slot-there-requires : tie.Need-slot-there-requires
-slot-there-requires c κs = search needs
-
-slice-aggregate-result : tie.Need-slice-aggregate-result
-slice-aggregate-result c = search needs
-
 returns : tie.Need-returns
 unfolding name-in
 returns c = rw (failed (c .before .before .slot-there .ensures) (c .before .if1 .taken))
-
-slot-row-requires : tie.Need-slot-row-requires
-slot-row-requires c κs = search needs
 
 entry-name-requires : tie.Need-entry-name-requires
 entry-name-requires c κs =
@@ -37,9 +28,6 @@ entry-name-requires c κs =
       c .before .before .before .before .pre .whole,
       omega (arith, row-counted (a .n) (a .t .now) (a .slot .0) (c .slot-row .result .0) (there c) (c .slot-row .ensures .0)),
     )
-
-name-length-requires : tie.Need-name-length-requires
-name-length-requires c κs = search needs
 
 slice-aggregate-result-2 : tie.Need-slice-aggregate-result-2
 slice-aggregate-result-2 c =
@@ -62,11 +50,11 @@ pub name-in-spec : {M : Type 1} → statement M
 name-in-spec =
     tie.close
     (tie.spec
-    slot-there-requires
-    slice-aggregate-result
+    (λ c κs. search needs)
+    (λ c. search needs)
     returns
-    slot-row-requires
+    (λ c κs. search needs)
     entry-name-requires
-    name-length-requires
+    (λ c κs. search needs)
     slice-aggregate-result-2
     returns-2)

@@ -4,15 +4,9 @@ use Rattle.rules.specs.Readers.{slot-there}
 use Rattle.reading.proofs.facts.slot_there.Statement.{statement}
 use Rattle.reading.proofs.facts.slot_there.Tie as tie
 
-cast-number : tie.Need-cast-number
-cast-number c = search needs
-
-count-slots-requires : tie.Need-count-slots-requires
-count-slots-requires c κs = search needs
-
 returns : tie.Need-returns
 unfolding slot-there
 returns c = rw (c .count-slots .ensures .0)
 
 pub slot-there-spec : {M : Type 1} → statement M
-slot-there-spec = tie.close (tie.spec cast-number count-slots-requires returns)
+slot-there-spec = tie.close (tie.spec (λ c. search needs) (λ c κs. search needs) returns)

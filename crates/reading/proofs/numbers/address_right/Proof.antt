@@ -5,15 +5,9 @@ use Rattle.rules.specs.Numbers.{address-right}
 use Rattle.reading.proofs.numbers.address_right.Statement.{statement}
 use Rattle.reading.proofs.numbers.address_right.Tie as tie
 
-rem-result : tie.Need-rem-result
-rem-result c = search needs
-
-ends-by-requires : tie.Need-ends-by-requires
-ends-by-requires c κs = search needs
-
 returns : tie.Need-returns
 unfolding address-right multiple
 returns c = rw (c .ends-by .ensures)
 
 pub address-right-spec : {M : Type 1} → statement M
-address-right-spec = tie.close (tie.spec rem-result ends-by-requires returns)
+address-right-spec = tie.close (tie.spec (λ c. search needs) (λ c κs. search needs) returns)

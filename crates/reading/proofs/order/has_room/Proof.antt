@@ -11,9 +11,6 @@ use borrow.Author.Needs.{needs}
 use Rattle.reading.proofs.order.has_room.Statement.{statement}
 use Rattle.reading.proofs.order.has_room.Tie as tie
 
-slot-total-requires : tie.Need-slot-total-requires
-slot-total-requires c κs = search needs
-
 returns : tie.Need-returns
 unfolding order-by starts
 returns c =
@@ -22,11 +19,8 @@ returns c =
     let most = order-fits (entries (a .t .now)) (places (a .p .now)) in
     sym (le-leb (length (order-by (a .t .now) (a .p .now))) (a .room) (omega (arith, total .ensures .0)))
 
-order-length-requires : tie.Need-order-length-requires
-order-length-requires c κs = search needs
-
 returns-2 : tie.Need-returns-2
 returns-2 c = rw (c .order-length .ensures)
 
 pub has-room-spec : {M : Type 1} → statement M
-has-room-spec = tie.close (tie.spec slot-total-requires returns order-length-requires returns-2)
+has-room-spec = tie.close (tie.spec (λ c κs. search needs) returns (λ c κs. search needs) returns-2)

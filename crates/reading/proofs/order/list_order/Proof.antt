@@ -25,12 +25,6 @@ has c =
       record { block = start .pre .1; places = c .places-of .ensures },
     )
 
-rows-of-requires : tie.Need-rows-of-requires
-rows-of-requires c κs = search needs
-
-places-of-requires : tie.Need-places-of-requires
-places-of-requires c κs = search needs
-
 has-room-requires : tie.Need-has-room-requires
 has-room-requires c κs = has c
 
@@ -48,9 +42,6 @@ write-order-requires c κs =
     let room = passed (test .before .has-room .ensures) (test .if1 .left) in
     (has places, leb-true (length (order-by (a .t .now) (a .p .now))) (length (a .row .now)) room)
 
-same-length : tie.Need-same-length
-same-length c = search needs
-
 returns-2 : tie.Need-returns-2
 unfolding order-in unless listed count-of row-after _>>=_
 returns-2 c =
@@ -63,10 +54,10 @@ pub list-order-spec : {M : Type 1} → statement M
 list-order-spec =
     tie.close
     (tie.spec
-    rows-of-requires
-    places-of-requires
+    (λ c κs. search needs)
+    (λ c κs. search needs)
     has-room-requires
     returns
     write-order-requires
-    same-length
+    (λ c. search needs)
     returns-2)

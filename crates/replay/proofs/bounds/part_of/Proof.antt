@@ -19,9 +19,6 @@ returns-2 c =
     let a = c .before .before .args in
     (rw (lt-leb (a .at + a .n) (a .whole) (omega arith)), (omega arith, omega arith))
 
-add-t6 : tie.Need-add-t6
-add-t6 c = search needs
-
 returns-3 : tie.Need-returns-3
 unfolding part
 returns-3 c =
@@ -29,4 +26,4 @@ returns-3 c =
     (rw (le-leb (a .at + a .n) (a .whole) (omega arith)), (omega arith, omega arith))
 
 pub part-of-spec : {M : Type 1} → statement M
-part-of-spec = tie.close (tie.spec returns returns-2 add-t6 returns-3)
+part-of-spec = tie.close (tie.spec returns returns-2 (λ c. search needs) returns-3)

@@ -22,12 +22,6 @@ loop-holds c = (omega arith, refl)
 place-value-requires : tie.Need-place-value-requires Inv-loop μ-loop
 place-value-requires c κs = (c .before .before .before .before .before .pre .1, c .if1 .taken)
 
-judge-requires : tie.Need-judge-requires Inv-loop μ-loop
-judge-requires c κs = search needs
-
-is-dead-requires : tie.Need-is-dead-requires Inv-loop μ-loop
-is-dead-requires c κs = search needs
-
 returns : tie.Need-returns Inv-loop μ-loop
 returns c =
     let dead = c .before in
@@ -40,12 +34,6 @@ returns c =
     let judgement = rw (value .place-value .ensures) at (judged .judge .ensures) in
     let found = sym (rw judgement at (dead .is-dead .ensures)) ∙ c .if2 .taken in
     sym (at .loop .inv .1 ∙ dead-here (starts (a .t .now)) (a .p .now) (at .loop .k) (omega arith) found)
-
-add-k : tie.Need-add-k Inv-loop μ-loop
-add-k c = search needs
-
-loop-less : tie.Need-loop-less Inv-loop μ-loop
-loop-less c = search needs
 
 loop-again : tie.Need-loop-again Inv-loop μ-loop
 loop-again c =
@@ -78,10 +66,10 @@ any-dead-spec =
     μ-loop
     loop-holds
     place-value-requires
-    judge-requires
-    is-dead-requires
+    (λ c κs. search needs)
+    (λ c κs. search needs)
     returns
-    add-k
-    loop-less
+    (λ c. search needs)
+    (λ c. search needs)
     loop-again
     returns-2)

@@ -6,24 +6,9 @@ use borrow.Author.Needs.{needs}
 use Rattle.report.proofs.dead.put_dead.Statement.{statement}
 use Rattle.report.proofs.dead.put_dead.Tie as tie
 
-any-dead-requires : tie.Need-any-dead-requires
-any-dead-requires c κs = search needs
-
 returns : tie.Need-returns
 unfolding dead-part
 returns c = rw (failed (c .before .any-dead .ensures) (c .if1 .taken)) (put-nothing _ _)
-
-slice-aggregate-put-bytes : tie.Need-slice-aggregate-put-bytes
-slice-aggregate-put-bytes c = search needs
-
-put-bytes-requires : tie.Need-put-bytes-requires
-put-bytes-requires c κs = search needs
-
-put-lines-requires : tie.Need-put-lines-requires
-put-lines-requires c κs = search needs
-
-same-length : tie.Need-same-length
-same-length c = search needs
 
 returns-2 : tie.Need-returns-2
 unfolding dead-part places-header
@@ -38,10 +23,10 @@ pub put-dead-spec : {M : Type 1} → statement M
 put-dead-spec =
     tie.close
     (tie.spec
-    any-dead-requires
+    (λ c κs. search needs)
     returns
-    slice-aggregate-put-bytes
-    put-bytes-requires
-    put-lines-requires
-    same-length
+    (λ c. search needs)
+    (λ c κs. search needs)
+    (λ c κs. search needs)
+    (λ c. search needs)
     returns-2)

@@ -7,33 +7,9 @@ use borrow.Author.Needs.{needs}
 use Rattle.report.proofs.dead.put_line.Statement.{statement}
 use Rattle.report.proofs.dead.put_line.Tie as tie
 
-is-dead-requires : tie.Need-is-dead-requires
-is-dead-requires c κs = search needs
-
 returns : tie.Need-returns
 unfolding place-line
 returns c = rw (failed (c .before .is-dead .ensures) (c .if1 .taken)) (put-nothing _ _)
-
-put-decimal-requires : tie.Need-put-decimal-requires
-put-decimal-requires c κs = search needs
-
-put-byte-requires : tie.Need-put-byte-requires
-put-byte-requires c κs = search needs
-
-put-kind-requires : tie.Need-put-kind-requires
-put-kind-requires c κs = search needs
-
-put-byte-requires-2 : tie.Need-put-byte-requires-2
-put-byte-requires-2 c κs = search needs
-
-put-decimal-requires-2 : tie.Need-put-decimal-requires-2
-put-decimal-requires-2 c κs = search needs
-
-put-byte-requires-3 : tie.Need-put-byte-requires-3
-put-byte-requires-3 c κs = search needs
-
-same-length : tie.Need-same-length
-same-length c = search needs
 
 returns-2 : tie.Need-returns-2
 unfolding place-line
@@ -57,13 +33,13 @@ pub put-line-spec : {M : Type 1} → statement M
 put-line-spec =
     tie.close
     (tie.spec
-    is-dead-requires
+    (λ c κs. search needs)
     returns
-    put-decimal-requires
-    put-byte-requires
-    put-kind-requires
-    put-byte-requires-2
-    put-decimal-requires-2
-    put-byte-requires-3
-    same-length
+    (λ c κs. search needs)
+    (λ c κs. search needs)
+    (λ c κs. search needs)
+    (λ c κs. search needs)
+    (λ c κs. search needs)
+    (λ c κs. search needs)
+    (λ c. search needs)
     returns-2)

@@ -28,20 +28,8 @@ loop-holds : tie.Need-loop-holds Inv-loop μ-loop
 unfolding numbered
 loop-holds c = (put-nothing _ _, omega arith)
 
-add-next : tie.Need-add-next Inv-loop μ-loop
-add-next c = search needs
-
 place-value-requires : tie.Need-place-value-requires Inv-loop μ-loop
 place-value-requires c κs = (c .before .before .before .before .before .before .pre .1, c .if1 .taken)
-
-judge-requires : tie.Need-judge-requires Inv-loop μ-loop
-judge-requires c κs = search needs
-
-put-line-requires : tie.Need-put-line-requires Inv-loop μ-loop
-put-line-requires c κs = search needs
-
-loop-less : tie.Need-loop-less Inv-loop μ-loop
-loop-less c = search needs
 
 loop-again : tie.Need-loop-again Inv-loop μ-loop
 unfolding judged-line
@@ -81,11 +69,11 @@ put-lines-spec =
     Inv-loop
     μ-loop
     loop-holds
-    add-next
+    (λ c. search needs)
     place-value-requires
-    judge-requires
-    put-line-requires
-    loop-less
+    (λ c κs. search needs)
+    (λ c κs. search needs)
+    (λ c. search needs)
     loop-again
     same-length
     returns)

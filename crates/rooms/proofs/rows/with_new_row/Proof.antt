@@ -5,39 +5,6 @@ use borrow.Author.Needs.{needs}
 use Rattle.rooms.proofs.rows.with_new_row.Statement.{statement}
 use Rattle.rooms.proofs.rows.with_new_row.Tie as tie
 
-entry-offset-requires : tie.Need-entry-offset-requires
-entry-offset-requires c κs = search needs
-
-with-name-requires : tie.Need-with-name-requires
-with-name-requires c κs = search needs
-
-slice-aggregate-store64 : tie.Need-slice-aggregate-store64
-slice-aggregate-store64 c = search needs
-
-add-store64 : tie.Need-add-store64
-add-store64 c = search needs
-
-store64-requires : tie.Need-store64-requires
-store64-requires c κs = search needs
-
-slice-aggregate-store64-2 : tie.Need-slice-aggregate-store64-2
-slice-aggregate-store64-2 c = search needs
-
-add-store64-2 : tie.Need-add-store64-2
-add-store64-2 c = search needs
-
-store64-requires-2 : tie.Need-store64-requires-2
-store64-requires-2 c κs = search needs
-
-slice-aggregate-store32 : tie.Need-slice-aggregate-store32
-slice-aggregate-store32 c = search needs
-
-add-store32 : tie.Need-add-store32
-add-store32 c = search needs
-
-store32-requires : tie.Need-store32-requires
-store32-requires c κs = search needs
-
 returns : tie.Need-returns
 returns c =
     let at-count = c .before in
@@ -57,15 +24,15 @@ pub with-new-row-spec : {M : Type 1} → statement M
 with-new-row-spec =
     tie.close
     (tie.spec
-    entry-offset-requires
-    with-name-requires
-    slice-aggregate-store64
-    add-store64
-    store64-requires
-    slice-aggregate-store64-2
-    add-store64-2
-    store64-requires-2
-    slice-aggregate-store32
-    add-store32
-    store32-requires
+    (λ c κs. search needs)
+    (λ c κs. search needs)
+    (λ c. search needs)
+    (λ c. search needs)
+    (λ c κs. search needs)
+    (λ c. search needs)
+    (λ c. search needs)
+    (λ c κs. search needs)
+    (λ c. search needs)
+    (λ c. search needs)
+    (λ c κs. search needs)
     returns)

@@ -8,24 +8,6 @@ use borrow.Author.Needs.{needs}
 use Rattle.rooms.proofs.rows.without_row.Statement.{statement}
 use Rattle.rooms.proofs.rows.without_row.Tie as tie
 
-entry-offset-requires : tie.Need-entry-offset-requires
-entry-offset-requires c κs = search needs
-
-sub-copy : tie.Need-sub-copy
-sub-copy c = search needs
-
-entry-offset-requires-2 : tie.Need-entry-offset-requires-2
-entry-offset-requires-2 c κs = search needs
-
-add-end : tie.Need-add-end
-add-end c = search needs
-
-zeros-requires : tie.Need-zeros-requires
-zeros-requires c κs = search needs
-
-slice-aggregate-copy : tie.Need-slice-aggregate-copy
-slice-aggregate-copy c = search needs
-
 slice-aggregate-copy-2 : tie.Need-slice-aggregate-copy-2
 slice-aggregate-copy-2 c =
     let at-offset = c .before .before .before .before in
@@ -38,33 +20,6 @@ copy-requires c κs =
     let s = at-offset .before .before in
     let front = length-take-le (at-offset .entry-offset .result) (s .args .t .now) (omega arith) in
     search needs
-
-slice-aggregate-copy-3 : tie.Need-slice-aggregate-copy-3
-slice-aggregate-copy-3 c = search needs
-
-add-copy : tie.Need-add-copy
-add-copy c = search needs
-
-sub-copy-2 : tie.Need-sub-copy-2
-sub-copy-2 c = search needs
-
-part-copy-start : tie.Need-part-copy-start
-part-copy-start c = search needs
-
-part-copy-end : tie.Need-part-copy-end
-part-copy-end c = search needs
-
-copy-requires-2 : tie.Need-copy-requires-2
-copy-requires-2 c κs = search needs
-
-slice-aggregate-store32 : tie.Need-slice-aggregate-store32
-slice-aggregate-store32 c = search needs
-
-sub-store32 : tie.Need-sub-store32
-sub-store32 c = search needs
-
-store32-requires : tie.Need-store32-requires
-store32-requires c κs = search needs
 
 returns : tie.Need-returns
 returns c =
@@ -86,21 +41,21 @@ pub without-row-spec : {M : Type 1} → statement M
 without-row-spec =
     tie.close
     (tie.spec
-    entry-offset-requires
-    sub-copy
-    entry-offset-requires-2
-    add-end
-    zeros-requires
-    slice-aggregate-copy
+    (λ c κs. search needs)
+    (λ c. search needs)
+    (λ c κs. search needs)
+    (λ c. search needs)
+    (λ c κs. search needs)
+    (λ c. search needs)
     slice-aggregate-copy-2
     copy-requires
-    slice-aggregate-copy-3
-    add-copy
-    sub-copy-2
-    part-copy-start
-    part-copy-end
-    copy-requires-2
-    slice-aggregate-store32
-    sub-store32
-    store32-requires
+    (λ c. search needs)
+    (λ c. search needs)
+    (λ c. search needs)
+    (λ c. search needs)
+    (λ c. search needs)
+    (λ c κs. search needs)
+    (λ c. search needs)
+    (λ c. search needs)
+    (λ c κs. search needs)
     returns)

@@ -21,9 +21,6 @@ returns c =
     place-over (a .p .now) 0 (omega (arith, count-is (a .p .now) (a .places) (s .pre .0))) in
     rw none
 
-place-value-requires : tie.Need-place-value-requires
-place-value-requires c κs = search needs
-
 returns-2 : tie.Need-returns-2
 returns-2 c =
     let value = c .before in
@@ -32,9 +29,6 @@ returns-2 c =
     sym (member-here (a .v)
     (place-turn (a .p .now) 0 (omega (arith, count-is (a .p .now) (a .places) (s .pre .0))))
     (c .if2 .taken ∙ value .place-value .ensures))
-
-held-above-requires : tie.Need-held-above-requires
-held-above-requires c κs = search needs
 
 returns-3 : tie.Need-returns-3
 returns-3 c =
@@ -49,4 +43,4 @@ returns-3 c =
 
 pub held-spec : {M : Type 1} → statement M
 held-spec =
-    tie.close (tie.spec returns place-value-requires returns-2 held-above-requires returns-3)
+    tie.close (tie.spec returns (λ c κs. search needs) returns-2 (λ c κs. search needs) returns-3)

@@ -11,9 +11,6 @@ use borrow.Author.Needs.{needs}
 use Rattle.rooms.proofs.starts.next_candidate.Statement.{statement}
 use Rattle.rooms.proofs.starts.next_candidate.Tie as tie
 
-raised-requires : tie.Need-raised-requires
-raised-requires c κs = search needs
-
 -- an address in an image is not the value of an erased place
 not-erased : (a : ℕ) → a ≤ longest → all-ones a ≡ false
 unfolding all-ones
@@ -30,9 +27,6 @@ held-requires : tie.Need-held-requires
 held-requires c κs =
     let s = c .before .before .before .before in
     (s .pre .0 .1, not-erased (s .args .a) (s .pre .1 .0))
-
-add-result : tie.Need-add-result
-add-result c = search needs
 
 returns-2 : tie.Need-returns-2
 unfolding next-candidate
@@ -60,4 +54,4 @@ returns-3 c =
 
 pub next-candidate-spec : {M : Type 1} → statement M
 next-candidate-spec =
-    tie.close (tie.spec raised-requires returns held-requires add-result returns-2 returns-3)
+    tie.close (tie.spec (λ c κs. search needs) returns held-requires (λ c. search needs) returns-2 returns-3)

@@ -33,9 +33,6 @@ here-and-after : (n i : ℕ) (t : List ℕ) → i < n → all (range-inside long
 unfolding all
 here-and-after n i t l h = and-true (range-inside longest (entry-at t i)) _ (rw (entries-turn n i t l) at h)
 
-loop-holds : tie.Need-loop-holds Inv-loop μ-loop
-loop-holds c = search needs
-
 raised-by-requires : tie.Need-raised-by-requires Inv-loop μ-loop
 raised-by-requires c κs =
     let at = c .before in
@@ -45,12 +42,6 @@ raised-by-requires c κs =
       (s .pre .0 .0 .whole, omega (arith, s .pre .0 .0 .few)),
       (ends-inside longest (entry-at (a .t .now) (at .loop .i)) inside, (at .loop .inv .0 .1, s .pre .1 .1)),
     )
-
-add-i : tie.Need-add-i Inv-loop μ-loop
-add-i c = search needs
-
-loop-less : tie.Need-loop-less Inv-loop μ-loop
-loop-less c = search needs
 
 loop-again : tie.Need-loop-again Inv-loop μ-loop
 unfolding raised
@@ -79,4 +70,4 @@ returns c =
 pub raised-spec : {M : Type 1} → statement M
 raised-spec =
     tie.close
-    (tie.spec Inv-loop μ-loop loop-holds raised-by-requires add-i loop-less loop-again returns)
+    (tie.spec Inv-loop μ-loop (λ c. search needs) raised-by-requires (λ c. search needs) (λ c. search needs) loop-again returns)

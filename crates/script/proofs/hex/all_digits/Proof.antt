@@ -19,15 +19,6 @@ Inv-loop word i₀ i = all is-hex-digit word ≡ all is-hex-digit (drop i word)
 abbrev μ-loop : tie.MeasureT-loop
 μ-loop word i₀ i = length word - i
 
-loop-holds : tie.Need-loop-holds Inv-loop μ-loop
-loop-holds c = search needs
-
-shared-slice-read-digit : tie.Need-shared-slice-read-digit Inv-loop μ-loop
-shared-slice-read-digit c = search needs
-
-digit-requires : tie.Need-digit-requires Inv-loop μ-loop
-digit-requires c κs = search needs
-
 returns : tie.Need-returns Inv-loop μ-loop
 returns c =
     let loop = c .before .before .before .before in
@@ -36,12 +27,6 @@ returns c =
     sym
     (loop .loop .inv
     ∙ all-fails is-hex-digit (drop-cons word (loop .loop .i) 0 (omega arith)) (le-ltb value 16 (omega (arith, c .before .digit .ensures .0))))
-
-add-i : tie.Need-add-i Inv-loop μ-loop
-add-i c = search needs
-
-loop-less : tie.Need-loop-less Inv-loop μ-loop
-loop-less c = search needs
 
 loop-again : tie.Need-loop-again Inv-loop μ-loop
 loop-again c =
@@ -63,11 +48,11 @@ all-digits-spec =
     (tie.spec
     Inv-loop
     μ-loop
-    loop-holds
-    shared-slice-read-digit
-    digit-requires
+    (λ c. search needs)
+    (λ c. search needs)
+    (λ c κs. search needs)
     returns
-    add-i
-    loop-less
+    (λ c. search needs)
+    (λ c. search needs)
     loop-again
     returns-2)

@@ -18,11 +18,8 @@ returns-3 c = (sym (value-between (c .before .before .before .args .byte) (omega
 returns-4 : tie.Need-returns-4
 returns-4 c = (sym (value-above (c .before .before .before .before .args .byte) (omega arith)), omega arith)
 
-add-result : tie.Need-add-result
-add-result c = search needs
-
 returns-5 : tie.Need-returns-5
 returns-5 c = (sym (value-letter (c .before .before .before .before .args .byte) (omega arith) (omega arith)), omega arith)
 
 pub digit-spec : {M : Type 1} → statement M
-digit-spec = tie.close (tie.spec returns returns-2 returns-3 returns-4 add-result returns-5)
+digit-spec = tie.close (tie.spec returns returns-2 returns-3 returns-4 (λ c. search needs) returns-5)

@@ -4,12 +4,9 @@ use borrow.Author.Needs.{needs}
 use Rattle.script.proofs.hex.is_bytes.Statement.{statement}
 use Rattle.script.proofs.hex.is_bytes.Tie as tie
 
-all-digits-requires : tie.Need-all-digits-requires
-all-digits-requires c κs = search needs
-
 returns : tie.Need-returns
 unfolding is-bytes
 returns c = rw (c .all-digits .ensures)
 
 pub is-bytes-spec : {M : Type 1} → statement M
-is-bytes-spec = tie.close (tie.spec all-digits-requires returns)
+is-bytes-spec = tie.close (tie.spec (λ c κs. search needs) returns)

@@ -5,21 +5,6 @@ use borrow.Author.Needs.{needs}
 use Rattle.script.proofs.hex.put_pair.Statement.{statement}
 use Rattle.script.proofs.hex.put_pair.Tie as tie
 
-shown-requires : tie.Need-shown-requires
-shown-requires c κs = search needs
-
-put-byte-requires : tie.Need-put-byte-requires
-put-byte-requires c κs = search needs
-
-shown-requires-2 : tie.Need-shown-requires-2
-shown-requires-2 c κs = search needs
-
-put-byte-requires-2 : tie.Need-put-byte-requires-2
-put-byte-requires-2 c κs = search needs
-
-same-length : tie.Need-same-length
-same-length c = search needs
-
 returns : tie.Need-returns
 unfolding pair
 returns c = then (rw (c .before .before .before .before .before .before .before .before .shown .ensures) at (c .before .before .before .before .before .before .before .put-byte .ensures)) (rw (c .before .before .before .shown2 .ensures) at (c .before .before .put-byte2 .ensures))
@@ -28,9 +13,9 @@ pub put-pair-spec : {M : Type 1} → statement M
 put-pair-spec =
     tie.close
     (tie.spec
-    shown-requires
-    put-byte-requires
-    shown-requires-2
-    put-byte-requires-2
-    same-length
+    (λ c κs. search needs)
+    (λ c κs. search needs)
+    (λ c κs. search needs)
+    (λ c κs. search needs)
+    (λ c. search needs)
     returns)

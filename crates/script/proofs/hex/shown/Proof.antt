@@ -6,19 +6,13 @@ use borrow.Author.Needs.{needs}
 use Rattle.script.proofs.hex.shown.Statement.{statement}
 use Rattle.script.proofs.hex.shown.Tie as tie
 
-add-result : tie.Need-add-result
-add-result c = search needs
-
 returns : tie.Need-returns
 unfolding hex-digit
 returns c = rw (lt-ltb (c .before .args .value) 10 (omega arith))
-
-add-result-2 : tie.Need-add-result-2
-add-result-2 c = search needs
 
 returns-2 : tie.Need-returns-2
 unfolding hex-digit
 returns-2 c = rw (le-ltb (c .before .args .value) 10 (omega arith))
 
 pub shown-spec : {M : Type 1} → statement M
-shown-spec = tie.close (tie.spec add-result returns add-result-2 returns-2)
+shown-spec = tie.close (tie.spec (λ c. search needs) returns (λ c. search needs) returns-2)

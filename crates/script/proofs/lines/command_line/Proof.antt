@@ -8,84 +8,6 @@ use borrow.Author.Needs.{needs}
 use Rattle.script.proofs.lines.command_line.Statement.{statement}
 use Rattle.script.proofs.lines.command_line.Tie as tie
 
-slot-of-requires : tie.Need-slot-of-requires
-slot-of-requires c κs = search needs
-
-slot-of-requires-2 : tie.Need-slot-of-requires-2
-slot-of-requires-2 c κs = search needs
-
-slice-aggregate-takes-slot : tie.Need-slice-aggregate-takes-slot
-slice-aggregate-takes-slot c = search needs
-
-takes-slot-requires : tie.Need-takes-slot-requires
-takes-slot-requires c κs = search needs
-
-form-requires : tie.Need-form-requires
-form-requires c κs = search needs
-
-slice-aggregate-takes-slot-2 : tie.Need-slice-aggregate-takes-slot-2
-slice-aggregate-takes-slot-2 c = search needs
-
-takes-slot-requires-2 : tie.Need-takes-slot-requires-2
-takes-slot-requires-2 c κs = search needs
-
-form-requires-2 : tie.Need-form-requires-2
-form-requires-2 c κs = search needs
-
-slice-aggregate-takes-slot-3 : tie.Need-slice-aggregate-takes-slot-3
-slice-aggregate-takes-slot-3 c = search needs
-
-takes-slot-requires-3 : tie.Need-takes-slot-requires-3
-takes-slot-requires-3 c κs = search needs
-
-form-requires-3 : tie.Need-form-requires-3
-form-requires-3 c κs = search needs
-
-slice-aggregate-takes-slot-4 : tie.Need-slice-aggregate-takes-slot-4
-slice-aggregate-takes-slot-4 c = search needs
-
-takes-slot-requires-4 : tie.Need-takes-slot-requires-4
-takes-slot-requires-4 c κs = search needs
-
-form-requires-4 : tie.Need-form-requires-4
-form-requires-4 c κs = search needs
-
-slice-aggregate-takes-slot-5 : tie.Need-slice-aggregate-takes-slot-5
-slice-aggregate-takes-slot-5 c = search needs
-
-takes-slot-requires-5 : tie.Need-takes-slot-requires-5
-takes-slot-requires-5 c κs = search needs
-
-form-requires-5 : tie.Need-form-requires-5
-form-requires-5 c κs = search needs
-
-slice-aggregate-takes-slot-6 : tie.Need-slice-aggregate-takes-slot-6
-slice-aggregate-takes-slot-6 c = search needs
-
-takes-slot-requires-6 : tie.Need-takes-slot-requires-6
-takes-slot-requires-6 c κs = search needs
-
-form-requires-6 : tie.Need-form-requires-6
-form-requires-6 c κs = search needs
-
-slice-aggregate-takes-slot-7 : tie.Need-slice-aggregate-takes-slot-7
-slice-aggregate-takes-slot-7 c = search needs
-
-takes-slot-requires-7 : tie.Need-takes-slot-requires-7
-takes-slot-requires-7 c κs = search needs
-
-form-requires-7 : tie.Need-form-requires-7
-form-requires-7 c κs = search needs
-
-slice-aggregate-takes : tie.Need-slice-aggregate-takes
-slice-aggregate-takes c = search needs
-
-takes-requires : tie.Need-takes-requires
-takes-requires c κs = search needs
-
-form-requires-8 : tie.Need-form-requires-8
-form-requires-8 c κs = search needs
-
 returns : tie.Need-returns
 unfolding by-forms command-forms
 returns c =
@@ -130,30 +52,30 @@ pub command-line-spec : {M : Type 1} → statement M
 command-line-spec =
     tie.close
     (tie.spec
-    slot-of-requires
-    slot-of-requires-2
-    slice-aggregate-takes-slot
-    takes-slot-requires
-    form-requires
-    slice-aggregate-takes-slot-2
-    takes-slot-requires-2
-    form-requires-2
-    slice-aggregate-takes-slot-3
-    takes-slot-requires-3
-    form-requires-3
-    slice-aggregate-takes-slot-4
-    takes-slot-requires-4
-    form-requires-4
-    slice-aggregate-takes-slot-5
-    takes-slot-requires-5
-    form-requires-5
-    slice-aggregate-takes-slot-6
-    takes-slot-requires-6
-    form-requires-6
-    slice-aggregate-takes-slot-7
-    takes-slot-requires-7
-    form-requires-7
-    slice-aggregate-takes
-    takes-requires
-    form-requires-8
+    (λ c κs. search needs)
+    (λ c κs. search needs)
+    (λ c. search needs)
+    (λ c κs. search needs)
+    (λ c κs. search needs)
+    (λ c. search needs)
+    (λ c κs. search needs)
+    (λ c κs. search needs)
+    (λ c. search needs)
+    (λ c κs. search needs)
+    (λ c κs. search needs)
+    (λ c. search needs)
+    (λ c κs. search needs)
+    (λ c κs. search needs)
+    (λ c. search needs)
+    (λ c κs. search needs)
+    (λ c κs. search needs)
+    (λ c. search needs)
+    (λ c κs. search needs)
+    (λ c κs. search needs)
+    (λ c. search needs)
+    (λ c κs. search needs)
+    (λ c κs. search needs)
+    (λ c. search needs)
+    (λ c κs. search needs)
+    (λ c κs. search needs)
     returns)

@@ -5,12 +5,9 @@ use borrow.Author.Needs.{needs}
 use Rattle.script.proofs.lines.takes.Statement.{statement}
 use Rattle.script.proofs.lines.takes.Tie as tie
 
-same-requires : tie.Need-same-requires
-same-requires c κs = search needs
-
 returns : tie.Need-returns
 unfolding takes
 returns c = let called = c .before .before in rw (equal-texts (called .same .ensures .0) (called .same .ensures .1))
 
 pub takes-spec : {M : Type 1} → statement M
-takes-spec = tie.close (tie.spec same-requires returns)
+takes-spec = tie.close (tie.spec (λ c κs. search needs) returns)

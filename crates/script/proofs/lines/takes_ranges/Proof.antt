@@ -5,12 +5,9 @@ use borrow.Author.Needs.{needs}
 use Rattle.script.proofs.lines.takes_ranges.Statement.{statement}
 use Rattle.script.proofs.lines.takes_ranges.Tie as tie
 
-same-requires : tie.Need-same-requires
-same-requires c κs = search needs
-
 returns : tie.Need-returns
 unfolding takes-ranges
 returns c = let called = c .before .before .before in rw (equal-texts (called .same .ensures .0) (called .same .ensures .1))
 
 pub takes-ranges-spec : {M : Type 1} → statement M
-takes-ranges-spec = tie.close (tie.spec same-requires returns)
+takes-ranges-spec = tie.close (tie.spec (λ c κs. search needs) returns)

@@ -4,12 +4,9 @@ use borrow.Author.Needs.{needs}
 use Rattle.script.proofs.lines.takes_slot.Statement.{statement}
 use Rattle.script.proofs.lines.takes_slot.Tie as tie
 
-takes-requires : tie.Need-takes-requires
-takes-requires c κs = search needs
-
 returns : tie.Need-returns
 unfolding takes-slot
 returns c = rw (c .before .takes .ensures)
 
 pub takes-slot-spec : {M : Type 1} → statement M
-takes-slot-spec = tie.close (tie.spec takes-requires returns)
+takes-slot-spec = tie.close (tie.spec (λ c κs. search needs) returns)

@@ -21,17 +21,8 @@ abbrev μ-loop : tie.MeasureT-loop
 returns : tie.Need-returns Inv-loop μ-loop
 returns c = c .wrong .ensures ∙ sym (number-empty (c .before .before .before .args .word .now) (omega arith))
 
-wrong-requires : tie.Need-wrong-requires Inv-loop μ-loop
-wrong-requires c κs = search needs
-
 loop-holds : tie.Need-loop-holds Inv-loop μ-loop
 loop-holds c = number-begins (c .before .before .args .word .now) (omega arith)
-
-shared-slice-read-digit : tie.Need-shared-slice-read-digit Inv-loop μ-loop
-shared-slice-read-digit c = search needs
-
-digit-requires : tie.Need-digit-requires Inv-loop μ-loop
-digit-requires c κs = search needs
 
 returns-2 : tie.Need-returns-2 Inv-loop μ-loop
 returns-2 c =
@@ -43,12 +34,6 @@ returns-2 c =
     (loop .loop .inv
     ∙ number-no-digit word (loop .loop .value) (loop .loop .i) (omega arith) (omega (arith, read .digit .ensures .0)))
 
-wrong-requires-2 : tie.Need-wrong-requires-2 Inv-loop μ-loop
-wrong-requires-2 c κs = search needs
-
-sub-if3 : tie.Need-sub-if3 Inv-loop μ-loop
-sub-if3 c = search needs
-
 returns-3 : tie.Need-returns-3 Inv-loop μ-loop
 returns-3 c =
     let read = c .before .before .before in
@@ -59,21 +44,6 @@ returns-3 c =
     ∙ sym
     (loop .loop .inv
     ∙ number-too-large word (loop .loop .value) (loop .loop .i) (omega arith) (omega (arith, same-digit)) (omega (arith, same-digit)))
-
-wrong-requires-3 : tie.Need-wrong-requires-3 Inv-loop μ-loop
-wrong-requires-3 c κs = search needs
-
-mul-value : tie.Need-mul-value Inv-loop μ-loop
-mul-value c = search needs
-
-add-value : tie.Need-add-value Inv-loop μ-loop
-add-value c = search needs
-
-add-i : tie.Need-add-i Inv-loop μ-loop
-add-i c = search needs
-
-loop-less : tie.Need-loop-less Inv-loop μ-loop
-loop-less c = search needs
 
 loop-again : tie.Need-loop-again Inv-loop μ-loop
 loop-again c =
@@ -92,19 +62,19 @@ number-of-spec =
     (tie.spec
     Inv-loop
     μ-loop
-    wrong-requires
+    (λ c κs. search needs)
     returns
     loop-holds
-    shared-slice-read-digit
-    digit-requires
-    wrong-requires-2
+    (λ c. search needs)
+    (λ c κs. search needs)
+    (λ c κs. search needs)
     returns-2
-    sub-if3
-    wrong-requires-3
+    (λ c. search needs)
+    (λ c κs. search needs)
     returns-3
-    mul-value
-    add-value
-    add-i
-    loop-less
+    (λ c. search needs)
+    (λ c. search needs)
+    (λ c. search needs)
+    (λ c. search needs)
     loop-again
     returns-4)

@@ -20,9 +20,6 @@ Inv-loop line row₀ end₀ row end = Read-from line end row
 abbrev μ-loop : tie.MeasureT-loop
 μ-loop line row₀ end₀ row end = end
 
-no-numbers-requires : tie.Need-no-numbers-requires Inv-loop μ-loop
-no-numbers-requires c κs = search needs
-
 loop-holds : tie.Need-loop-holds Inv-loop μ-loop
 loop-holds c = rw (c .no-numbers .ensures) (none-read (c .before .before .args .line .now))
 
@@ -31,9 +28,6 @@ slice-aggregate-text c =
     let so-far = c .before .before .loop .inv in
     sym (length-take-le _ _ (omega (arith, so-far .room)))
 
-last-word-start-requires : tie.Need-last-word-start-requires Inv-loop μ-loop
-last-word-start-requires c κs = search needs
-
 returns : tie.Need-returns Inv-loop μ-loop
 returns c =
     let start = c .before in
@@ -41,22 +35,10 @@ returns c =
     let line = loop .before .before .before .args .line .now in
     all-read (loop .loop .inv) (no-later (take (loop .loop .end) line) (start .last-word-start .ensures) (c .if1 .taken))
 
-sub-with-front : tie.Need-sub-with-front Inv-loop μ-loop
-sub-with-front c = search needs
-
-part-with-front-start : tie.Need-part-with-front-start Inv-loop μ-loop
-part-with-front-start c = search needs
-
-part-with-front-end : tie.Need-part-with-front-end Inv-loop μ-loop
-part-with-front-end c = search needs
-
 with-front-requires : tie.Need-with-front-requires Inv-loop μ-loop
 with-front-requires c κs =
     let loop = c .before .before .before .before .before in
     omega (arith, count-inside (loop .loop .inv))
-
-sub-end : tie.Need-sub-end Inv-loop μ-loop
-sub-end c = search needs
 
 loop-less : tie.Need-loop-less Inv-loop μ-loop
 loop-less c =
@@ -91,16 +73,16 @@ numbers-of-spec =
     (tie.spec
     Inv-loop
     μ-loop
-    no-numbers-requires
+    (λ c κs. search needs)
     loop-holds
     slice-aggregate-text
-    last-word-start-requires
+    (λ c κs. search needs)
     returns
-    sub-with-front
-    part-with-front-start
-    part-with-front-end
+    (λ c. search needs)
+    (λ c. search needs)
+    (λ c. search needs)
     with-front-requires
-    sub-end
+    (λ c. search needs)
     loop-less
     loop-again
     returns-2)

@@ -3,11 +3,8 @@ use borrow.Author.Needs.{needs}
 use Rattle.script.proofs.numbers.value_of.Statement.{statement}
 use Rattle.script.proofs.numbers.value_of.Tie as tie
 
-number-of-requires : tie.Need-number-of-requires
-number-of-requires c κs = search needs
-
 returns : tie.Need-returns
 returns c = rw (c .number-of .ensures)
 
 pub value-of-spec : {M : Type 1} → statement M
-value-of-spec = tie.close (tie.spec number-of-requires returns)
+value-of-spec = tie.close (tie.spec (λ c κs. search needs) returns)

@@ -20,24 +20,12 @@ Inv-loop rule table n i₀ i = (i ≤ n) × (all (keeps rule) (rows n table) ≡
 abbrev μ-loop : tie.MeasureT-loop
 μ-loop rule table n i₀ i = n - i
 
-loop-holds : tie.Need-loop-holds Inv-loop μ-loop
-loop-holds c = search needs
-
-entry-keeps-requires : tie.Need-entry-keeps-requires Inv-loop μ-loop
-entry-keeps-requires c κs = search needs
-
 returns : tie.Need-returns Inv-loop μ-loop
 returns c =
     let at = c .before .before .before in
     let a = at .before .before .args in
     let turn = entries-turn (a .n) (at .loop .i) (a .table .now) (omega arith) in
     sym (at .loop .inv .1 ∙ all-fails (keeps (a .rule)) turn (failed (c .before .entry-keeps .ensures) (c .if1 .taken)))
-
-add-i : tie.Need-add-i Inv-loop μ-loop
-add-i c = search needs
-
-loop-less : tie.Need-loop-less Inv-loop μ-loop
-loop-less c = search needs
 
 loop-again : tie.Need-loop-again Inv-loop μ-loop
 loop-again c =
@@ -60,10 +48,10 @@ all-keep-spec =
     (tie.spec
     Inv-loop
     μ-loop
-    loop-holds
-    entry-keeps-requires
+    (λ c. search needs)
+    (λ c κs. search needs)
     returns
-    add-i
-    loop-less
+    (λ c. search needs)
+    (λ c. search needs)
     loop-again
     returns-2)

@@ -7,27 +7,6 @@ use Rattle.table.proofs.each.entry_keeps.Tie as tie
 enum-told : tie.Need-enum-told
 enum-told c = search needs
 
-name-is-right-requires : tie.Need-name-is-right-requires
-name-is-right-requires c κs = search needs
-
-enum-told-2 : tie.Need-enum-told-2
-enum-told-2 c = search needs
-
-name-is-padded-requires : tie.Need-name-is-padded-requires
-name-is-padded-requires c κs = search needs
-
-enum-told-3 : tie.Need-enum-told-3
-enum-told-3 c = search needs
-
-range-is-aligned-requires : tie.Need-range-is-aligned-requires
-range-is-aligned-requires c κs = search needs
-
-enum-known-rule : tie.Need-enum-known-rule
-enum-known-rule c = search needs
-
-range-is-inside-requires : tie.Need-range-is-inside-requires
-range-is-inside-requires c κs = search needs
-
 returns : tie.Need-returns
 unfolding keeps
 returns c = rw (c .before .enum-told .given .1, c .name-is-right .ensures)
@@ -49,13 +28,13 @@ entry-keeps-spec =
     tie.close
     (tie.spec
     enum-told
-    name-is-right-requires
-    enum-told-2
-    name-is-padded-requires
-    enum-told-3
-    range-is-aligned-requires
-    enum-known-rule
-    range-is-inside-requires
+    (λ c κs. search needs)
+    (λ c. search needs)
+    (λ c κs. search needs)
+    (λ c. search needs)
+    (λ c κs. search needs)
+    (λ c. search needs)
+    (λ c κs. search needs)
     returns
     returns-2
     returns-3

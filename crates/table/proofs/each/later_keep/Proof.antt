@@ -23,15 +23,6 @@ Inv-loop rule table n d i₀ i =
 abbrev μ-loop : tie.MeasureT-loop
 μ-loop rule table n d i₀ i = n - i
 
-add-i : tie.Need-add-i Inv-loop μ-loop
-add-i c = search needs
-
-loop-holds : tie.Need-loop-holds Inv-loop μ-loop
-loop-holds c = search needs
-
-pair-keeps-requires : tie.Need-pair-keeps-requires Inv-loop μ-loop
-pair-keeps-requires c κs = search needs
-
 returns : tie.Need-returns Inv-loop μ-loop
 returns c =
     let at = c .before .before .before in
@@ -39,12 +30,6 @@ returns c =
     let turn = entries-turn (a .n) (at .loop .i) (a .table .now) (omega arith) in
     let keeps = both-keep (a .rule) (entry-at (a .table .now) (a .d .0)) in
     sym (at .loop .inv .1 ∙ all-fails keeps turn (failed (c .before .pair-keeps .ensures) (c .if1 .taken)))
-
-add-i-2 : tie.Need-add-i-2 Inv-loop μ-loop
-add-i-2 c = search needs
-
-loop-less : tie.Need-loop-less Inv-loop μ-loop
-loop-less c = search needs
 
 loop-again : tie.Need-loop-again Inv-loop μ-loop
 loop-again c =
@@ -67,11 +52,11 @@ later-keep-spec =
     (tie.spec
     Inv-loop
     μ-loop
-    add-i
-    loop-holds
-    pair-keeps-requires
+    (λ c. search needs)
+    (λ c. search needs)
+    (λ c κs. search needs)
     returns
-    add-i-2
-    loop-less
+    (λ c. search needs)
+    (λ c. search needs)
     loop-again
     returns-2)

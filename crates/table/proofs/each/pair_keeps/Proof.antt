@@ -7,21 +7,6 @@ use Rattle.table.proofs.each.pair_keeps.Tie as tie
 enum-told : tie.Need-enum-told
 enum-told c = search needs
 
-names-differ-requires : tie.Need-names-differ-requires
-names-differ-requires c κs = search needs
-
-enum-told-2 : tie.Need-enum-told-2
-enum-told-2 c = search needs
-
-fields-differ-requires : tie.Need-fields-differ-requires
-fields-differ-requires c κs = search needs
-
-enum-told-3 : tie.Need-enum-told-3
-enum-told-3 c = search needs
-
-ranges-are-apart-requires : tie.Need-ranges-are-apart-requires
-ranges-are-apart-requires c κs = search needs
-
 returns : tie.Need-returns
 unfolding both-keep
 returns c = rw (c .before .enum-told .given .1, c .names-differ .ensures)
@@ -39,11 +24,11 @@ pair-keeps-spec =
     tie.close
     (tie.spec
     enum-told
-    names-differ-requires
-    enum-told-2
-    fields-differ-requires
-    enum-told-3
-    ranges-are-apart-requires
+    (λ c κs. search needs)
+    (λ c. search needs)
+    (λ c κs. search needs)
+    (λ c. search needs)
+    (λ c κs. search needs)
     returns
     returns-2
     returns-3)

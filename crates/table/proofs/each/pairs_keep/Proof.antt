@@ -22,12 +22,6 @@ Inv-loop rule table n i₀ i =
 abbrev μ-loop : tie.MeasureT-loop
 μ-loop rule table n i₀ i = n - i
 
-loop-holds : tie.Need-loop-holds Inv-loop μ-loop
-loop-holds c = search needs
-
-later-keep-requires : tie.Need-later-keep-requires Inv-loop μ-loop
-later-keep-requires c κs = search needs
-
 returns : tie.Need-returns Inv-loop μ-loop
 returns c =
     let at = c .before .before .before in
@@ -35,12 +29,6 @@ returns c =
     let turn = entries-turn (a .n) (at .loop .i) (a .table .now) (omega arith) in
     let fails = pairwise-fails (both-keep (a .rule)) turn (failed (c .before .later-keep .ensures) (c .if1 .taken)) in
     sym (at .loop .inv .1 ∙ fails)
-
-add-i : tie.Need-add-i Inv-loop μ-loop
-add-i c = search needs
-
-loop-less : tie.Need-loop-less Inv-loop μ-loop
-loop-less c = search needs
 
 loop-again : tie.Need-loop-again Inv-loop μ-loop
 loop-again c =
@@ -63,10 +51,10 @@ pairs-keep-spec =
     (tie.spec
     Inv-loop
     μ-loop
-    loop-holds
-    later-keep-requires
+    (λ c. search needs)
+    (λ c κs. search needs)
     returns
-    add-i
-    loop-less
+    (λ c. search needs)
+    (λ c. search needs)
     loop-again
     returns-2)

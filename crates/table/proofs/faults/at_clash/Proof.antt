@@ -29,9 +29,6 @@ loop-holds : tie.Need-loop-holds Inv-loop μ-loop
 unfolding entries-before
 loop-holds c = search needs
 
-earlier-keep-requires : tie.Need-earlier-keep-requires Inv-loop μ-loop
-earlier-keep-requires c κs = search needs
-
 returns : tie.Need-returns Inv-loop μ-loop
 returns c =
     let at = c .before .before .before in
@@ -42,12 +39,6 @@ returns c =
     let e : first-clash (both-keep (a .rule)) [] (rows (a .n) (a .table .now)) ≡ at .loop .i
     = omega (arith, at .loop .inv .1, here) in
     rw e
-
-add-i : tie.Need-add-i Inv-loop μ-loop
-add-i c = search needs
-
-loop-less : tie.Need-loop-less Inv-loop μ-loop
-loop-less c = search needs
 
 loop-again : tie.Need-loop-again Inv-loop μ-loop
 loop-again c =
@@ -75,9 +66,9 @@ at-clash-spec =
     Inv-loop
     μ-loop
     loop-holds
-    earlier-keep-requires
+    (λ c κs. search needs)
     returns
-    add-i
-    loop-less
+    (λ c. search needs)
+    (λ c. search needs)
     loop-again
     returns-2)

@@ -23,12 +23,6 @@ Inv-loop number rule table n len setting i₀ i =
 abbrev μ-loop : tie.MeasureT-loop
 μ-loop number rule table n len setting i₀ i = n - i
 
-loop-holds : tie.Need-loop-holds Inv-loop μ-loop
-loop-holds c = search needs
-
-entry-passes-requires : tie.Need-entry-passes-requires Inv-loop μ-loop
-entry-passes-requires c κs = search needs
-
 returns : tie.Need-returns Inv-loop μ-loop
 returns c =
     let at = c .before .before .before in
@@ -39,12 +33,6 @@ returns c =
     let e : first-failing (passes (a .rule) (a .setting) (a .len)) (rows (a .n) (a .table .now)) ≡ at .loop .i
     = omega (arith, at .loop .inv .1, here) in
     rw e
-
-add-i : tie.Need-add-i Inv-loop μ-loop
-add-i c = search needs
-
-loop-less : tie.Need-loop-less Inv-loop μ-loop
-loop-less c = search needs
 
 loop-again : tie.Need-loop-again Inv-loop μ-loop
 loop-again c =
@@ -71,10 +59,10 @@ at-entry-spec =
     (tie.spec
     Inv-loop
     μ-loop
-    loop-holds
-    entry-passes-requires
+    (λ c. search needs)
+    (λ c κs. search needs)
     returns
-    add-i
-    loop-less
+    (λ c. search needs)
+    (λ c. search needs)
     loop-again
     returns-2)

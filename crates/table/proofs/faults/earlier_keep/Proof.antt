@@ -30,15 +30,6 @@ Inv-loop rule table e k₀ k =
 abbrev μ-loop : tie.MeasureT-loop
 μ-loop rule table e k₀ k = k
 
-loop-holds : tie.Need-loop-holds Inv-loop μ-loop
-loop-holds c = search needs
-
-sub-k : tie.Need-sub-k Inv-loop μ-loop
-sub-k c = search needs
-
-pair-keeps-requires : tie.Need-pair-keeps-requires Inv-loop μ-loop
-pair-keeps-requires c κs = search needs
-
 returns : tie.Need-returns Inv-loop μ-loop
 returns c =
     let at = c .before .before .before in
@@ -48,9 +39,6 @@ returns c =
     (at .loop .inv .1
     ∙ all-fails (with-this (a .rule) (entry-at (a .table .now) (a .e .0))) down
     (failed (c .before .pair-keeps .ensures) (c .if1 .taken)))
-
-loop-less : tie.Need-loop-less Inv-loop μ-loop
-loop-less c = search needs
 
 loop-again : tie.Need-loop-again Inv-loop μ-loop
 loop-again c =
@@ -74,10 +62,10 @@ earlier-keep-spec =
     (tie.spec
     Inv-loop
     μ-loop
-    loop-holds
-    sub-k
-    pair-keeps-requires
+    (λ c. search needs)
+    (λ c. search needs)
+    (λ c κs. search needs)
     returns
-    loop-less
+    (λ c. search needs)
     loop-again
     returns-2)

@@ -34,12 +34,6 @@ rule6 : (c : tie.Else4)
 unfolding keeps
 rule6 c = passed (c .before .all-keep3 .ensures) (c .if4 .left)
 
-all-keep-requires : tie.Need-all-keep-requires
-all-keep-requires c κs = search needs
-
-at-entry-requires : tie.Need-at-entry-requires
-at-entry-requires c κs = search needs
-
 returns : tie.Need-returns
 unfolding keeps passes
 returns c =
@@ -47,12 +41,6 @@ returns c =
     c .at-entry .ensures
     ∙ sym (fault-3 (start .args .setting) (judged start) (start .args .len)
     (failed (c .before .before .all-keep .ensures) (c .before .if1 .taken)))
-
-all-differ-requires : tie.Need-all-differ-requires
-all-differ-requires c κs = search needs
-
-at-clash-requires : tie.Need-at-clash-requires
-at-clash-requires c κs = search needs
 
 returns-2 : tie.Need-returns-2
 unfolding both-keep
@@ -63,12 +51,6 @@ returns-2 c =
     ∙ sym (fault-4 (start .args .setting) (judged start) (start .args .len) (rule3 c3)
     (failed (c .before .before .all-differ .ensures) (c .before .if2 .taken)))
 
-all-keep-requires-2 : tie.Need-all-keep-requires-2
-all-keep-requires-2 c κs = search needs
-
-at-entry-requires-2 : tie.Need-at-entry-requires-2
-at-entry-requires-2 c κs = search needs
-
 returns-3 : tie.Need-returns-3
 unfolding keeps passes
 returns-3 c =
@@ -78,12 +60,6 @@ returns-3 c =
     c .at-entry2 .ensures
     ∙ sym (fault-5 (start .args .setting) (judged start) (start .args .len) (rule3 c3) (rule4 c4)
     (failed (c .before .before .all-keep2 .ensures) (c .before .if3 .taken)))
-
-all-keep-requires-3 : tie.Need-all-keep-requires-3
-all-keep-requires-3 c κs = search needs
-
-at-entry-requires-3 : tie.Need-at-entry-requires-3
-at-entry-requires-3 c κs = search needs
 
 returns-4 : tie.Need-returns-4
 unfolding keeps passes
@@ -96,12 +72,6 @@ returns-4 c =
     ∙ sym (fault-6 (start .args .setting) (judged start) (start .args .len) (rule3 c3) (rule4 c4) (rule5 c5)
     (failed (c .before .before .all-keep3 .ensures) (c .before .if4 .taken)))
 
-all-are-apart-requires : tie.Need-all-are-apart-requires
-all-are-apart-requires c κs = search needs
-
-at-clash-requires-2 : tie.Need-at-clash-requires-2
-at-clash-requires-2 c κs = search needs
-
 returns-5 : tie.Need-returns-5
 unfolding both-keep
 returns-5 c =
@@ -113,9 +83,6 @@ returns-5 c =
     c .at-clash2 .ensures
     ∙ sym (fault-7 (start .args .setting) (judged start) (start .args .len) (rule3 c3) (rule4 c4) (rule5 c5) (rule6 c6)
     (failed (c .before .before .all-are-apart .ensures) (c .before .if5 .taken)))
-
-six-fault-requires : tie.Need-six-fault-requires
-six-fault-requires c κs = search needs
 
 returns-6 : tie.Need-returns-6
 returns-6 c =
@@ -132,20 +99,20 @@ pub entries-fault-spec : {M : Type 1} → statement M
 entries-fault-spec =
     tie.close
     (tie.spec
-    all-keep-requires
-    at-entry-requires
+    (λ c κs. search needs)
+    (λ c κs. search needs)
     returns
-    all-differ-requires
-    at-clash-requires
+    (λ c κs. search needs)
+    (λ c κs. search needs)
     returns-2
-    all-keep-requires-2
-    at-entry-requires-2
+    (λ c κs. search needs)
+    (λ c κs. search needs)
     returns-3
-    all-keep-requires-3
-    at-entry-requires-3
+    (λ c κs. search needs)
+    (λ c κs. search needs)
     returns-4
-    all-are-apart-requires
-    at-clash-requires-2
+    (λ c κs. search needs)
+    (λ c κs. search needs)
     returns-5
-    six-fault-requires
+    (λ c κs. search needs)
     returns-6)

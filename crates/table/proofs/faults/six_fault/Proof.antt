@@ -48,12 +48,6 @@ rule10 c =
     rule-10-by-number (a .n) (a .table .now) (c8 .before .before .find-six .ensures) (a .setting) (there c8)
     ∙ passed (c .before .tables-are-as-told .ensures) (c .if3 .left)
 
-find-six-requires : tie.Need-find-six-requires
-find-six-requires c κs = search needs
-
-six-are-named-requires : tie.Need-six-are-named-requires
-six-are-named-requires c κs = search needs
-
 returns : tie.Need-returns
 returns c =
     let a = c .before .before .before .before .args in
@@ -63,9 +57,6 @@ returns c =
 
 boot-info-is-at-0-requires : tie.Need-boot-info-is-at-0-requires
 boot-info-is-at-0-requires c κs = (c .before .before .before .before .pre .0 .whole, counted c)
-
-at-entry-requires : tie.Need-at-entry-requires
-at-entry-requires c κs = search needs
 
 returns-2 : tie.Need-returns-2
 unfolding passes
@@ -81,9 +72,6 @@ tables-are-as-told-requires : tie.Need-tables-are-as-told-requires
 tables-are-as-told-requires c κs =
     let c8 = c .before .before in
     (c8 .before .before .before .before .pre .0 .whole, counted c8)
-
-at-entry-requires-2 : tie.Need-at-entry-requires-2
-at-entry-requires-2 c κs = search needs
 
 returns-3 : tie.Need-returns-3
 unfolding passes
@@ -101,9 +89,6 @@ blocks-are-on-granules-requires c κs =
     let c8 = c .before .before .before .before in
     let start = c8 .before .before .before .before in
     ((start .pre .0 .whole, counted c8), start .pre .1)
-
-at-entry-requires-3 : tie.Need-at-entry-requires-3
-at-entry-requires-3 c κs = search needs
 
 returns-4 : tie.Need-returns-4
 unfolding passes
@@ -131,16 +116,16 @@ pub six-fault-spec : {M : Type 1} → statement M
 six-fault-spec =
     tie.close
     (tie.spec
-    find-six-requires
-    six-are-named-requires
+    (λ c κs. search needs)
+    (λ c κs. search needs)
     returns
     boot-info-is-at-0-requires
-    at-entry-requires
+    (λ c κs. search needs)
     returns-2
     tables-are-as-told-requires
-    at-entry-requires-2
+    (λ c κs. search needs)
     returns-3
     blocks-are-on-granules-requires
-    at-entry-requires-3
+    (λ c κs. search needs)
     returns-4
     returns-5)

@@ -30,30 +30,12 @@ by-words c =
     rw (d .0, e .0)
     (ap not (same-by-words _ _ bytes-d bytes-e (rw (d .0) at (d .1)) (rw (e .0) at (e .1))))
 
-entry-name-requires : tie.Need-entry-name-requires
-entry-name-requires c κs = search needs
-
-entry-name-requires-2 : tie.Need-entry-name-requires-2
-entry-name-requires-2 c κs = search needs
-
-le64-requires : tie.Need-le64-requires
-le64-requires c κs = search needs
-
-le64-requires-2 : tie.Need-le64-requires-2
-le64-requires-2 c κs = search needs
-
 returns : tie.Need-returns
 returns c =
     let second = c .before in
     let first = second .before in
     let differ = ne-eqb (first .le64 .result) (second .le642 .result) (c .if1 .taken) in
     rw (by-words (first .before), ← first .le64 .ensures, ← second .le642 .ensures, differ)
-
-le64-requires-3 : tie.Need-le64-requires-3
-le64-requires-3 c κs = search needs
-
-le64-requires-4 : tie.Need-le64-requires-4
-le64-requires-4 c κs = search needs
 
 returns-2 : tie.Need-returns-2
 returns-2 c =
@@ -67,11 +49,11 @@ pub fields-differ-spec : {M : Type 1} → statement M
 fields-differ-spec =
     tie.close
     (tie.spec
-    entry-name-requires
-    entry-name-requires-2
-    le64-requires
-    le64-requires-2
+    (λ c κs. search needs)
+    (λ c κs. search needs)
+    (λ c κs. search needs)
+    (λ c κs. search needs)
     returns
-    le64-requires-3
-    le64-requires-4
+    (λ c κs. search needs)
+    (λ c κs. search needs)
     returns-2)

@@ -5,15 +5,6 @@ use Rattle.table.proofs.Padding.{padded-zeros}
 use Rattle.table.proofs.naming.name_is_padded.Statement.{statement}
 use Rattle.table.proofs.naming.name_is_padded.Tie as tie
 
-entry-name-requires : tie.Need-entry-name-requires
-entry-name-requires c κs = search needs
-
-name-length-requires : tie.Need-name-length-requires
-name-length-requires c κs = search needs
-
-is-zero-from-requires : tie.Need-is-zero-from-requires
-is-zero-from-requires c κs = search needs
-
 returns : tie.Need-returns
 returns c =
     let name = c .before .before in
@@ -24,4 +15,4 @@ returns c =
 
 pub name-is-padded-spec : {M : Type 1} → statement M
 name-is-padded-spec =
-    tie.close (tie.spec entry-name-requires name-length-requires is-zero-from-requires returns)
+    tie.close (tie.spec (λ c κs. search needs) (λ c κs. search needs) (λ c κs. search needs) returns)

@@ -4,15 +4,9 @@ use Rattle.rules.specs.Table.{name, name-right}
 use Rattle.table.proofs.naming.name_is_right.Statement.{statement}
 use Rattle.table.proofs.naming.name_is_right.Tie as tie
 
-entry-name-requires : tie.Need-entry-name-requires
-entry-name-requires c κs = search needs
-
-name-length-requires : tie.Need-name-length-requires
-name-length-requires c κs = search needs
-
 returns : tie.Need-returns
 unfolding name-right name
 returns c = rw (c .name-length .ensures .0, c .before .entry-name .ensures .0)
 
 pub name-is-right-spec : {M : Type 1} → statement M
-name-is-right-spec = tie.close (tie.spec entry-name-requires name-length-requires returns)
+name-is-right-spec = tie.close (tie.spec (λ c κs. search needs) (λ c κs. search needs) returns)

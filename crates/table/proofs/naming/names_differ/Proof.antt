@@ -4,19 +4,10 @@ use Rattle.rules.specs.Table.{name, names-differ}
 use Rattle.table.proofs.naming.names_differ.Statement.{statement}
 use Rattle.table.proofs.naming.names_differ.Tie as tie
 
-entry-name-requires : tie.Need-entry-name-requires
-entry-name-requires c κs = search needs
-
-entry-name-requires-2 : tie.Need-entry-name-requires-2
-entry-name-requires-2 c κs = search needs
-
-same-name-requires : tie.Need-same-name-requires
-same-name-requires c κs = search needs
-
 returns : tie.Need-returns
 unfolding names-differ name
 returns c = rw (c .same-name .ensures, c .before .entry-name2 .ensures .0, c .before .before .entry-name .ensures .0)
 
 pub names-differ-spec : {M : Type 1} → statement M
 names-differ-spec =
-    tie.close (tie.spec entry-name-requires entry-name-requires-2 same-name-requires returns)
+    tie.close (tie.spec (λ c κs. search needs) (λ c κs. search needs) (λ c κs. search needs) returns)

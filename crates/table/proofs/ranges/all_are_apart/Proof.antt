@@ -7,17 +7,11 @@ use Rattle.table.proofs.Ascending.{ascending-apart}
 use Rattle.table.proofs.ranges.all_are_apart.Statement.{statement}
 use Rattle.table.proofs.ranges.all_are_apart.Tie as tie
 
-ranges-ascend-requires : tie.Need-ranges-ascend-requires
-ranges-ascend-requires c κs = search needs
-
 returns : tie.Need-returns
 returns c =
     let ascend = c .before in
     let a = ascend .before .before .args in
     sym (ascending-apart (rows (a .n) (a .table .now)) (sym (ascend .ranges-ascend .ensures) ∙ c .if1 .taken))
-
-pairs-keep-requires : tie.Need-pairs-keep-requires
-pairs-keep-requires c κs = search needs
 
 returns-2 : tie.Need-returns-2
 unfolding both-keep
@@ -25,4 +19,4 @@ returns-2 c = c .pairs-keep .ensures
 
 pub all-are-apart-spec : {M : Type 1} → statement M
 all-are-apart-spec =
-    tie.close (tie.spec ranges-ascend-requires returns pairs-keep-requires returns-2)
+    tie.close (tie.spec (λ c κs. search needs) returns (λ c κs. search needs) returns-2)

@@ -5,15 +5,9 @@ use Rattle.rules.specs.Table.{range-aligned}
 use Rattle.table.proofs.ranges.range_is_aligned.Statement.{statement}
 use Rattle.table.proofs.ranges.range_is_aligned.Tie as tie
 
-entry-start-requires : tie.Need-entry-start-requires
-entry-start-requires c κs = search needs
-
-entry-size-requires : tie.Need-entry-size-requires
-entry-size-requires c κs = search needs
-
 returns : tie.Need-returns
 unfolding range-aligned multiple
 returns c = rw (c .entry-size .ensures, c .before .entry-start .ensures)
 
 pub range-is-aligned-spec : {M : Type 1} → statement M
-range-is-aligned-spec = tie.close (tie.spec entry-start-requires entry-size-requires returns)
+range-is-aligned-spec = tie.close (tie.spec (λ c κs. search needs) (λ c κs. search needs) returns)

@@ -5,15 +5,9 @@ use Rattle.table.specs.Inner.Ascending.{ends-before}
 use Rattle.table.proofs.ranges.ranges_are_apart.Statement.{statement}
 use Rattle.table.proofs.ranges.ranges_are_apart.Tie as tie
 
-ends-before-requires : tie.Need-ends-before-requires
-ends-before-requires c κs = search needs
-
-ends-before-requires-2 : tie.Need-ends-before-requires-2
-ends-before-requires-2 c κs = search needs
-
 returns : tie.Need-returns
 unfolding ranges-apart ends-before
 returns c = rw (c .ends-before2 .ensures, c .before .ends-before .ensures)
 
 pub ranges-are-apart-spec : {M : Type 1} → statement M
-ranges-are-apart-spec = tie.close (tie.spec ends-before-requires ends-before-requires-2 returns)
+ranges-are-apart-spec = tie.close (tie.spec (λ c κs. search needs) (λ c κs. search needs) returns)

@@ -21,18 +21,6 @@ Inv-loop table n i₀ i =
 abbrev μ-loop : tie.MeasureT-loop
 μ-loop table n i₀ i = n - i
 
-loop-holds : tie.Need-loop-holds Inv-loop μ-loop
-loop-holds c = search needs
-
-add-loop : tie.Need-add-loop Inv-loop μ-loop
-add-loop c = search needs
-
-add-t4 : tie.Need-add-t4 Inv-loop μ-loop
-add-t4 c = search needs
-
-ends-before-requires : tie.Need-ends-before-requires Inv-loop μ-loop
-ends-before-requires c κs = search needs
-
 returns : tie.Need-returns Inv-loop μ-loop
 returns c =
     let at = c .before .before .before in
@@ -41,12 +29,6 @@ returns c =
     let next = entries-turn (a .n) (at .loop .i + 1) (a .table .now) (omega arith) in
     let fail = neighbours-fail ends-before here next (failed (c .before .ends-before .ensures) (c .if1 .taken)) in
     sym (at .loop .inv .1 ∙ fail)
-
-add-i : tie.Need-add-i Inv-loop μ-loop
-add-i c = search needs
-
-loop-less : tie.Need-loop-less Inv-loop μ-loop
-loop-less c = search needs
 
 loop-again : tie.Need-loop-again Inv-loop μ-loop
 loop-again c =
@@ -71,12 +53,12 @@ ranges-ascend-spec =
     (tie.spec
     Inv-loop
     μ-loop
-    loop-holds
-    add-loop
-    add-t4
-    ends-before-requires
+    (λ c. search needs)
+    (λ c. search needs)
+    (λ c. search needs)
+    (λ c κs. search needs)
     returns
-    add-i
-    loop-less
+    (λ c. search needs)
+    (λ c. search needs)
     loop-again
     returns-2)

@@ -3,18 +3,6 @@ use borrow.Author.Needs.{needs}
 use Rattle.table.proofs.six.blocks_are_on_granules.Statement.{statement}
 use Rattle.table.proofs.six.blocks_are_on_granules.Tie as tie
 
-is-on-granules-requires : tie.Need-is-on-granules-requires
-is-on-granules-requires c κs = search needs
-
-is-on-granules-requires-2 : tie.Need-is-on-granules-requires-2
-is-on-granules-requires-2 c κs = search needs
-
-is-on-granules-requires-3 : tie.Need-is-on-granules-requires-3
-is-on-granules-requires-3 c κs = search needs
-
-is-on-granules-requires-4 : tie.Need-is-on-granules-requires-4
-is-on-granules-requires-4 c κs = search needs
-
 returns : tie.Need-returns
 returns c =
     let c3 = c .before in
@@ -30,8 +18,8 @@ pub blocks-are-on-granules-spec : {M : Type 1} → statement M
 blocks-are-on-granules-spec =
     tie.close
     (tie.spec
-    is-on-granules-requires
-    is-on-granules-requires-2
-    is-on-granules-requires-3
-    is-on-granules-requires-4
+    (λ c κs. search needs)
+    (λ c κs. search needs)
+    (λ c κs. search needs)
+    (λ c κs. search needs)
     returns)

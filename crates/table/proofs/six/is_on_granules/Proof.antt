@@ -5,18 +5,9 @@ use Rattle.rules.specs.Table.{on-granules}
 use Rattle.table.proofs.six.is_on_granules.Statement.{statement}
 use Rattle.table.proofs.six.is_on_granules.Tie as tie
 
-entry-start-requires : tie.Need-entry-start-requires
-entry-start-requires c κs = search needs
-
-rem-result : tie.Need-rem-result
-rem-result c = search needs
-
-entry-size-requires : tie.Need-entry-size-requires
-entry-size-requires c κs = search needs
-
 returns : tie.Need-returns
 unfolding on-granules multiple
 returns c = rw (c .before .entry-start .ensures, c .entry-size .ensures)
 
 pub is-on-granules-spec : {M : Type 1} → statement M
-is-on-granules-spec = tie.close (tie.spec entry-start-requires rem-result entry-size-requires returns)
+is-on-granules-spec = tie.close (tie.spec (λ c κs. search needs) (λ c. search needs) (λ c κs. search needs) returns)

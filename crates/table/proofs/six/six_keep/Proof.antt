@@ -17,12 +17,6 @@ counted c =
     let named = passed (c .before .six-are-named .ensures) (c .if1 .left) in
     below-more (start .args .n) six (start .pre .0 .few) (all-below (start .args .n) six named)
 
-find-six-requires : tie.Need-find-six-requires
-find-six-requires c κs = search needs
-
-six-are-named-requires : tie.Need-six-are-named-requires
-six-are-named-requires c κs = search needs
-
 returns : tie.Need-returns
 returns c =
     let found = c .before .before in
@@ -62,8 +56,8 @@ pub six-keep-spec : {M : Type 1} → statement M
 six-keep-spec =
     tie.close
     (tie.spec
-    find-six-requires
-    six-are-named-requires
+    (λ c κs. search needs)
+    (λ c κs. search needs)
     returns
     boot-info-is-at-0-requires
     tables-are-as-told-requires

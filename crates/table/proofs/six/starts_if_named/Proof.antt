@@ -4,15 +4,9 @@ use Rattle.rules.specs.Table.{if-named, starts-at}
 use Rattle.table.proofs.six.starts_if_named.Statement.{statement}
 use Rattle.table.proofs.six.starts_if_named.Tie as tie
 
-has-name-requires : tie.Need-has-name-requires
-has-name-requires c κs = search needs
-
-entry-start-requires : tie.Need-entry-start-requires
-entry-start-requires c κs = search needs
-
 returns : tie.Need-returns
 unfolding if-named starts-at
 returns c = rw (c .before .has-name .ensures, c .entry-start .ensures)
 
 pub starts-if-named-spec : {M : Type 1} → statement M
-starts-if-named-spec = tie.close (tie.spec has-name-requires entry-start-requires returns)
+starts-if-named-spec = tie.close (tie.spec (λ c κs. search needs) (λ c κs. search needs) returns)
