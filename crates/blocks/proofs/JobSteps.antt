@@ -10,8 +10,7 @@ use Rattle.rules.specs.Commands.{into-places}
 use Rattle.rules.specs.declared.Step.{Step}
 use Rattle.jobs.specs.Jobs.{place-room, part, listed, steps-of}
 use Rattle.jobs.specs.declared.Kind.the-variants.{Nothing, Rewrite}
-use Rattle.blocks.specs.Made.{Lists, rewrites, no-steps, no-job, pair-rewritten, places-noted, places-written}
-use Rattle.blocks.specs.declared.Rewriting.{Rewriting}
+use Rattle.blocks.specs.Made.{Lists, Rewriting, rewrites, no-steps, no-job, pair-rewritten, places-noted, places-written}
 use Rattle.blocks.proofs.Noting.{Below, noted-back}
 
 -- the steps of a block to be rewritten or not

@@ -14,7 +14,7 @@ use Rattle.rules.proofs.Pointers.Filling.{length-pointer-bytes}
 use Rattle.blocks.specs.Made.{erased-block}
 
 -- a block of the same length takes the place of all bytes
-put-whole : (vs b : List ℕ) → length b ≡ length vs → put-at 0 vs b ≡ vs
+pub put-whole : (vs b : List ℕ) → length b ≡ length vs → put-at 0 vs b ≡ vs
 unfolding put-at
 put-whole vs b l =
     let e : drop (0 + length vs) b ≡ [] = drop-of-length-le b {i = 0 + length vs} (omega arith) in

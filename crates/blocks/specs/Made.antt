@@ -1,6 +1,6 @@
 -- The jobs that a command starts with, field by field: no steps, blocks rewritten, bytes into places. Assumes nothing.
 use mathlib.Core.Path.{_≡_}
-use mathlib.Core.Bool.{true, false, cond}
+use mathlib.Core.Bool.{Bool, true, false, cond}
 use mathlib.Core.List.{List, [], _∷_, _++_}
 use Prim.Native.Nat.{ℕ, _*_, _-_}
 use lib.ListN.{length, replicate}
@@ -8,9 +8,9 @@ use Rattle.rules.specs.Bytes.{block-size, bytes-of, erased-byte}
 use Rattle.rules.specs.declared.Step.{Step}
 use Rattle.jobs.specs.Jobs.{place-room, steps-of}
 use Rattle.jobs.specs.declared.Job.{Job}
+use Rattle.jobs.specs.declared.Plan.{Plan}
 use Rattle.jobs.specs.declared.Kind.the-variants.{Nothing, Rewrite, Places}
 use Rattle.blocks.specs.declared.Noted.{Noted}
-use Rattle.blocks.specs.declared.Rewriting.{Rewriting}
 
 -- a job with no step done: it denotes these steps, for an image of this length and with this granule
 pub record Lists (j : Job) (len granule : ℕ) (ss : List Step) : Type 0 where
@@ -24,27 +24,37 @@ pub record Lists (j : Job) (len granule : ℕ) (ss : List Step) : Type 0 where
 unfoldable pub erased-block : List ℕ
 erased-block = replicate block-size erased-byte
 
-abbrev no-places : List ℕ
+abbrev pub no-places : List ℕ
 no-places = replicate (2 * place-room) 0
 
-abbrev no-value : List ℕ
+abbrev pub no-value : List ℕ
 no-value = replicate 8 0
 
 -- ---- blocks rewritten
 
+-- a block to be rewritten at an address, or not
+pub record Rewriting : Type 0 where
+  pub wanted : Bool
+  pub at : ℕ
+  pub block : List ℕ
+
+-- one part or none at an address, then another
+abbrev pub rewrites-plan : ℕ → ℕ → Bool → ℕ → Bool → ℕ → Plan
+rewrites-plan len granule x at y after = record {
+  len = len;
+  granule = granule;
+  offset = 0;
+  first = cond x Rewrite Nothing;
+  at = at;
+  second = cond y Rewrite Nothing;
+  after = after;
+  count = 0;
+}
+
 -- one block rewritten or not, then another
 unfoldable pub rewrites : ℕ → ℕ → Rewriting → Rewriting → Job
 rewrites len granule x y = record {
-  plan = record {
-    len = len;
-    granule = granule;
-    offset = 0;
-    first = cond (x .wanted) Rewrite Nothing;
-    at = x .at;
-    second = cond (y .wanted) Rewrite Nothing;
-    after = y .at;
-    count = 0;
-  };
+  plan = rewrites-plan len granule (x .wanted) (x .at) (y .wanted) (y .at);
   done = 0;
   first = x .block;
   second = y .block;
@@ -82,19 +92,23 @@ unfoldable pub places-noted : List ℕ → Noted
 places-noted ks =
     record { places = number-bytes ks ++ replicate (2 * (place-room - length ks)) 0; count = length ks }
 
--- eight bytes into each of the places noted, in the block at one address, then in the block at another
+-- bytes into so many places, which begin at an offset of the block at one address, then of the block at another
+abbrev pub places-plan : ℕ → ℕ → ℕ → ℕ → ℕ → ℕ → Plan
+places-plan len granule offset at after count = record {
+  len = len;
+  granule = granule;
+  offset = offset;
+  first = Places;
+  at = at;
+  second = Places;
+  after = after;
+  count = count;
+}
+
+-- eight bytes into each of the places noted
 unfoldable pub places-written : ℕ → ℕ → ℕ → ℕ → ℕ → Noted → List ℕ → Job
 places-written len granule offset at after found v = record {
-  plan = record {
-    len = len;
-    granule = granule;
-    offset = offset;
-    first = Places;
-    at = at;
-    second = Places;
-    after = after;
-    count = found .count;
-  };
+  plan = places-plan len granule offset at after (found .count);
   done = 0;
   first = erased-block;
   second = erased-block;

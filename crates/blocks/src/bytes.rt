@@ -1,9 +1,8 @@
-// Bytes put into a block that is held by value.
+// Blocks by value, and the bytes of a number.
 ghost use mathlib.Core.Path.{_≡_};
-ghost use Prim.Native.Nat.{_+_, _%_, _≤_};
+ghost use Prim.Native.Nat.{_%_};
 ghost use lib.ListN.{length};
 ghost use Rattle.rules.specs.Bytes.{bytes-of, block-size};
-ghost use Rattle.rules.specs.Final.{put-at};
 ghost use Rattle.blocks.specs.Made.{erased-block};
 
 pub fn erased_block() -> [u8; 4096]
@@ -12,22 +11,14 @@ pub fn erased_block() -> [u8; 4096]
     [0xFF; 4096]
 }
 
-// The block with these bytes at an offset.
-pub fn put(block: [u8; 4096], at: usize, given: &[u8]) -> [u8; 4096]
-    requires { ⌜ at + length (now given) ≤ block-size ⌝ }
-    ensures { λ r. ⌜ r ≡ put-at at (now (given .entry)) block ⌝ }
-{
-    let mut b = block;
-    fields::stores::copy(&mut b, at, given);
-    b
-}
-
 // A lent block, by value.
 pub fn copied(block: &[u8]) -> [u8; 4096]
     requires { ⌜ length (now block) ≡ block-size ⌝ }
     ensures { λ r. ⌜ r ≡ now (block .entry) ⌝ }
 {
-    put(erased_block(), 0, block)
+    let mut b = erased_block();
+    fields::stores::copy(&mut b, 0, block);
+    b
 }
 
 // The eight bytes of a number, lowest first.

@@ -3,17 +3,11 @@ pub mod bytes; // bytes put into a block
 pub mod pointers; // the places of a pointer block
 pub mod packing; // a pointer block with another order
 pub mod tables; // a table with another name in an entry
-pub mod made; // jobs
+pub mod made; // jobs, and their plans
 
 // The numbers of some places, two bytes each, in the front of an array.
 pub struct Noted {
     pub places: [u8; 1016],
-    pub count: usize,
-}
-
-// A pointer block made up, and how many of its places are filled.
-pub struct Packed {
-    pub block: [u8; 4096],
     pub count: usize,
 }
 
@@ -23,11 +17,4 @@ pub struct Target {
     pub granule: usize,
     pub at0: u32,
     pub at1: u32,
-}
-
-// A block to be rewritten at an address, or not.
-pub struct Rewriting {
-    pub wanted: bool,
-    pub at: u32,
-    pub block: [u8; 4096],
 }

@@ -1,5 +1,4 @@
-// A pointer block p made up anew by a table t: the order without a slot, or with it in front.
-use super::Packed;
+// A pointer block p made up anew by a table t, into the room lent for it: the order without a slot, or with it in front.
 use super::bytes;
 use super::tables;
 use places::Places;
@@ -11,24 +10,33 @@ ghost use mathlib.Core.List.{[], _∷_};
 ghost use Prim.Native.Nat.{_<_};
 ghost use lib.ListN.{length, getD};
 ghost use Rattle.rules.specs.Lists.{without};
+ghost use Rattle.rules.specs.Bytes.{block-size};
 ghost use Rattle.rules.specs.Table.{entries, slots, starts};
 ghost use Rattle.rules.specs.Pointers.{place-count};
 ghost use Rattle.rules.specs.Copies.{order-by};
 ghost use Rattle.rules.specs.Commands.{filled, pointers-of, enough-places};
 ghost use Rattle.places.specs.Inner.PlacesOf.{HasPlaces};
-ghost use Rattle.blocks.specs.Inner.Walked.{Readable, SlotNumbers, packed};
+ghost use Rattle.blocks.specs.Inner.Walked.{Readable, SlotNumbers, Packed};
 
-// The pointers of the boot order without a slot, from lowest priority upward, the other places erased.
-pub fn order_without(t: &[u8], rows: Rows, p: &[u8], places: Places, slot: SlotNo) -> Packed
-    requires { ⌜ Readable (now t) rows (now p) places ⌝ }
+// The pointers of the boot order without a slot, from lowest priority upward, the other places erased; and how many.
+pub fn order_without(
+    t: &[u8],
+    rows: Rows,
+    p: &[u8],
+    places: Places,
+    slot: SlotNo,
+    room: &mut [u8],
+) -> usize
+    requires { ⌜ Readable (now t) rows (now p) places × (length (now room) ≡ block-size) ⌝ }
     ensures { λ r. ⌜
-        r ≡ packed (now (p .entry)) (pointers-of (starts (now (t .entry)))
-        (without (slot .0) (order-by (now (t .entry)) (now (p .entry)))))
+        Packed (now (p .entry))
+        (pointers-of (starts (now (t .entry))) (without (slot .0) (order-by (now (t .entry)) (now (p .entry)))))
+        r (now (room .exit))
         ⌝ }
 {
     let mut row = [0; 127];
     let len = places::order::write_order(t, rows, p, places, &mut row);
-    pack_without(t, rows, p, places, &row[..len], slot)
+    pack_without(t, rows, p, places, &row[..len], slot, room)
 }
 
 // The block has a place for each slot of the order with this one in front, as a block with a place for each entry has.
@@ -39,8 +47,8 @@ pub fn enough_places(t: &[u8], rows: Rows, p: &[u8], places: Places, slot: SlotN
     if rows.count <= places.count {
         return true;
     }
-    let others = order_without(t, rows, p, places, slot);
-    1 + others.count <= places.count
+    let mut room = bytes::erased_block();
+    1 + order_without(t, rows, p, places, slot, &mut room) <= places.count
 }
 
 // The same with the slot, which starts there, in front of the order: its pointer is the last.
@@ -51,21 +59,20 @@ pub fn order_with_first(
     places: Places,
     slot: SlotNo,
     start: u64,
-) -> [u8; 4096]
+    room: &mut [u8],
+)
     requires { ⌜
-        Readable (now t) rows (now p) places
+        (Readable (now t) rows (now p) places × (length (now room) ≡ block-size))
         × ((enough-places (starts (now t)) (now p) (slot .0) ≡ true) × (start ≡ getD (starts (now t)) (slot .0) 0))
         ⌝ }
-    ensures { λ r. ⌜
-        r ≡ filled (now (p .entry)) (pointers-of (starts (now (t .entry)))
+    ensures { λ _. ⌜
+        now (room .exit) ≡ filled (now (p .entry)) (pointers-of (starts (now (t .entry)))
         (slot .0 ∷ without (slot .0) (order-by (now (t .entry)) (now (p .entry)))))
         ⌝ }
 {
-    let made = order_without(t, rows, p, places, slot);
-    let mut b = made.block;
+    let others = order_without(t, rows, p, places, slot, room);
     let pointer = bytes::bytes_of(start);
-    fields::stores::copy(&mut b, places.offset + 8 * made.count, &pointer);
-    b
+    fields::stores::copy(room, places.offset + 8 * others, &pointer);
 }
 
 // The pointers of an order without a slot, put from the order's end on, which has the lowest priority.
@@ -76,18 +83,19 @@ fn pack_without(
     places: Places,
     order: &[u32],
     slot: SlotNo,
-) -> Packed
+    room: &mut [u8],
+) -> usize
     requires { ⌜
-        Readable (now t) rows (now p) places
+        (Readable (now t) rows (now p) places × (length (now room) ≡ block-size))
         × SlotNumbers (length (slots (entries (now t)))) (place-count (now p)) (now order)
         ⌝ }
     ensures { λ r. ⌜
-        r ≡ packed (now (p .entry)) (pointers-of (starts (now (t .entry)))
-        (without (slot .0) (now (order .entry))))
+        Packed (now (p .entry)) (pointers-of (starts (now (t .entry))) (without (slot .0) (now (order .entry))))
+        r (now (room .exit))
         ⌝ }
 {
     let offset = places.offset;
-    let mut b = emptied(p, places);
+    emptied(p, places, room);
     let mut count = 0;
     let mut i = order.len();
     while 0 < i {
@@ -95,23 +103,21 @@ fn pack_without(
         let s = order[i];
         if s != slot.0 {
             let pointer = bytes::bytes_of(tables::slot_start(t, rows, SlotNo(s)));
-            fields::stores::copy(&mut b, offset + 8 * count, &pointer);
+            fields::stores::copy(room, offset + 8 * count, &pointer);
             count += 1;
         }
     }
-    Packed {
-        block: b,
-        count: count,
-    }
+    count
 }
 
 // The bytes outside the places as they were, the places erased.
-fn emptied(p: &[u8], places: Places) -> [u8; 4096]
-    requires { ⌜ HasPlaces (now p) places ⌝ }
-    ensures { λ r. ⌜ r ≡ filled (now (p .entry)) [] ⌝ }
+fn emptied(p: &[u8], places: Places, room: &mut [u8])
+    requires { ⌜ HasPlaces (now p) places × (length (now room) ≡ block-size) ⌝ }
+    ensures { λ _. ⌜ now (room .exit) ≡ filled (now (p .entry)) [] ⌝ }
 {
     let offset = places.offset;
     let end = offset + 8 * places.count;
-    let b = bytes::put(bytes::erased_block(), 0, &p[..offset]);
-    bytes::put(b, end, &p[end..])
+    fields::stores::fill(room, 0xFF);
+    fields::stores::copy(room, 0, &p[..offset]);
+    fields::stores::copy(room, end, &p[end..]);
 }

@@ -1,6 +1,5 @@
 // A table t, of which the first n entries count: where a slot starts, what a start half cleared names, and the table
 // with another name in an entry.
-use super::bytes;
 use rules::EntryNo;
 use rules::SlotNo;
 use slots::Rows;
@@ -72,13 +71,17 @@ pub fn name_free(t: &[u8], n: usize, e: EntryNo, name: &[u8]) -> bool
     true
 }
 
-// The table with the name, and zeros up to 16, in an entry; the other bytes as they were.
-pub fn with_name(t: &[u8], e: EntryNo, name: &[u8]) -> [u8; 4096]
-    requires { ⌜ ((length (now t) ≡ block-size) × (e .0 < most-entries)) × (length (now name) ≤ 16) ⌝ }
-    ensures { λ r. ⌜ r ≡ put-name (now (t .entry)) (e .0) (now (name .entry)) ⌝ }
+// The table with the name, and zeros up to 16, in an entry, into the room; the other bytes as they were.
+pub fn put_name(t: &[u8], e: EntryNo, name: &[u8], room: &mut [u8])
+    requires { ⌜
+        ((length (now t) ≡ block-size) × (e .0 < most-entries))
+        × ((length (now name) ≤ 16) × (length (now room) ≡ block-size))
+        ⌝ }
+    ensures { λ _. ⌜ now (room .exit) ≡ put-name (now (t .entry)) (e .0) (now (name .entry)) ⌝ }
 {
     let at = entries::entry_offset(e);
     let zeros = [0; 16];
-    let b = bytes::put(bytes::copied(t), at, &zeros);
-    bytes::put(b, at, name)
+    fields::stores::copy(room, 0, t);
+    fields::stores::copy(room, at, &zeros);
+    fields::stores::copy(room, at, name);
 }

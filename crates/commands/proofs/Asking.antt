@@ -16,43 +16,22 @@ use Rattle.rules.specs.Table.{entry-count, entries, rows, slots, starts}
 use Rattle.rules.specs.Pointers.{places}
 use Rattle.rules.specs.Copies.{view, agree-by, order-by, boot-order}
 use Rattle.rules.specs.Readers.{slot-row, slot-there}
-use Rattle.rules.specs.Commands.{Command, enable, disable, rename, repair, slot-empty, enough-places, enable-steps, disable-steps, rename-steps, repair-steps, giving, name-allowed, name-free, job}
-use Rattle.rules.specs.declared.Step.{Step}
+use Rattle.rules.specs.Commands.{enable, disable, rename, slot-empty, enough-places, enable-steps, disable-steps, rename-steps, giving, name-allowed, name-free, job}
 use Rattle.rules.specs.declared.View.{View}
 use Rattle.rules.proofs.Lists.Tests.{unless-given}
 use Rattle.rules.proofs.Table.Standing.{length-entries-from}
 use Rattle.rules.proofs.Table.Renaming.{slot-row-found}
-use Rattle.jobs.specs.declared.Job.{Job}
 use Rattle.blocks.proofs.Walking.{in-order}
-use Rattle.commands.specs.JobFor.{enable-job, disable-job, rename-job, repair-job, job-for}
-use Rattle.commands.specs.Begins.{refusal, started, returned, job-by}
+use Rattle.commands.specs.JobFor.{enable-job, disable-job, rename-job, job-for}
+use Rattle.commands.specs.Begins.{job-by}
+use Rattle.commands.specs.Inner.Drafted.{Drafts, Means}
 use Rattle.commands.specs.Inner.Asked.{outcome, copies-equal, slot-asked}
-use Rattle.commands.specs.declared.Begun.{Begun}
+use Rattle.commands.specs.declared.Draft.{Draft}
 use Rattle.commands.specs.declared.Outcome.{Outcome}
 use Rattle.commands.specs.declared.Outcome.the-variants.{Started, Refused}
+use Rattle.commands.proofs.Drafting.{drafts-job}
 use Rattle.commands.proofs.EqualCopies.{pairs-agree-if-equal}
 use Rattle.commands.proofs.Locating.{slot-inside}
-
--- ---- what a start returns
-
-module _ (s : Setting) (img : List ℕ) (v : View) (c : Command) (r : Begun) where
-  pub returns-refused : (why : Refusal) → r ≡ refusal why → job s img v c ≡ refused why → r ≡ returned (job-by s img v c)
-  unfolding returned job-by _>>=_
-  returns-refused why er ea = rw ea er
-
-  pub returns-started : (j : Job) (ss : List Step) → r ≡ started j → j ≡ job-for (s .granule) img v c → job s img v c ≡ given ss
-      → r ≡ returned (job-by s img v c)
-  unfolding returned job-by _>>=_
-  returns-started j ss er ej ea = rw ea (er ∙ ap started ej)
-
--- ---- repair
-
-pub repair-started : (s : Setting) (img : List ℕ) (v : View) (r : Begun) (j : Job)
-    → r ≡ started j
-    → j ≡ repair-job (s .granule) img v
-    → r ≡ returned (job-by s img v repair)
-unfolding job job-for
-repair-started s img v r j er ej = returns-started s img v repair r j (repair-steps s img v) er ej refl
 
 -- ---- refusals 6 and 7
 
@@ -139,15 +118,14 @@ module _ (s : Setting) (img : List ℕ) (v : View) (h : view s img ≡ given v) 
           enable-refused-15 full = passed-by _ ∙ rw (← et, ← ea, f, ← ep, full)
 
           pub enable-started : enough-places (starts t) p k ≡ true
-              → (r : Begun) (j : Job)
-              → r ≡ started j
-              → j ≡ enable-job (length img) (s .granule) (v .cpb0) (v .cpb1) (starts t) p k
-              → r ≡ returned (job-by s img v (enable k))
-          unfolding job job-for unless
-          enable-started enough r j er ej =
-              returns-started s img v (enable k) r j
-              (enable-steps (v .cpb0) (v .cpb1) (starts (block img (v .table))) (block img (v .pointers)) k) er
-              (ej ∙ rw (et, ep)) (passed-by _ ∙ rw (← et, ← ea, f, ← ep, enough))
+              → (room : List ℕ) (d : Draft)
+              → Means room d (given (enable-job (length img) (s .granule) (v .cpb0) (v .cpb1) (starts t) p k))
+              → Drafts img room d (job-by s img v (enable k))
+          unfolding job job-for unless Means
+          enable-started enough room d m =
+              drafts-job s img v (enable k) room d
+              (enable-steps (v .cpb0) (v .cpb1) (starts (block img (v .table))) (block img (v .pointers)) k)
+              (passed-by _ ∙ rw (← et, ← ea, f, ← ep, enough)) (rw (et, ep) at (m img))
 
       module _ (t p : List ℕ) (et : t ≡ block img (v .table)) (ep : p ≡ block img (v .pointers)) where
         module _ (ks : List ℕ) (ek : ks ≡ giving (starts t) k 0 (places p)) where
@@ -160,15 +138,14 @@ module _ (s : Setting) (img : List ℕ) (v : View) (h : view s img ≡ given v) 
           disable-refused-8 none = passed-by _ ∙ rw (ordered, none)
 
           pub disable-started : 0 < length ks
-              → (r : Begun) (j : Job)
-              → r ≡ started j
-              → j ≡ disable-job (length img) (s .granule) (v .cpb0) (v .cpb1) (starts t) p k
-              → r ≡ returned (job-by s img v (disable k))
-          unfolding job job-for unless
-          disable-started some r j er ej =
-              returns-started s img v (disable k) r j
-              (disable-steps (v .cpb0) (v .cpb1) (starts (block img (v .table))) (block img (v .pointers)) k) er
-              (ej ∙ rw (et, ep)) (passed-by _ ∙ rw (ordered, lt-ltb 0 (length ks) some))
+              → (room : List ℕ) (d : Draft)
+              → Means room d (given (disable-job (length img) (s .granule) (v .cpb0) (v .cpb1) (starts t) p k))
+              → Drafts img room d (job-by s img v (disable k))
+          unfolding job job-for unless Means
+          disable-started some room d m =
+              drafts-job s img v (disable k) room d
+              (disable-steps (v .cpb0) (v .cpb1) (starts (block img (v .table))) (block img (v .pointers)) k)
+              (passed-by _ ∙ rw (ordered, lt-ltb 0 (length ks) some)) (rw (et, ep) at (m img))
 
       module _ (t : List ℕ) (n : ℕ) (et : t ≡ block img (v .table)) (en : n ≡ entry-count t) where
         same-rows : rows n t ≡ entries (block img (v .table))
@@ -196,12 +173,11 @@ module _ (s : Setting) (img : List ℕ) (v : View) (h : view s img ≡ given v) 
             rename-refused-10 f = passed-by _ ∙ rw (allowed, ← same-rows, f)
 
             pub rename-started : name-free (rows n t) (slot-row (rows n t) k) name ≡ true
-                → (r : Begun) (j : Job)
-                → r ≡ started j
-                → j ≡ rename-job (length img) (s .granule) (v .spt0) (v .spt1) t k name
-                → r ≡ returned (job-by s img v (rename k name))
-            unfolding job job-for unless
-            rename-started f r j er ej =
-                returns-started s img v (rename k name) r j
-                (rename-steps (v .spt0) (v .spt1) (block img (v .table)) k name) er (ej ∙ rw et)
-                (passed-by _ ∙ rw (allowed, ← same-rows, f))
+                → (room : List ℕ) (d : Draft)
+                → Means room d (given (rename-job (length img) (s .granule) (v .spt0) (v .spt1) t k name))
+                → Drafts img room d (job-by s img v (rename k name))
+            unfolding job job-for unless Means
+            rename-started f room d m =
+                drafts-job s img v (rename k name) room d
+                (rename-steps (v .spt0) (v .spt1) (block img (v .table)) k name)
+                (passed-by _ ∙ rw (allowed, ← same-rows, f)) (rw et at (m img))

@@ -1,5 +1,6 @@
 pub mod Locating
 pub mod EqualCopies
+pub mod Drafting
 pub mod Asking
 pub mod NewAsked
 pub mod CommandJobs

@@ -23,18 +23,20 @@ use Rattle.rules.proofs.Lists.Tests.{unless-given}
 use Rattle.rules.proofs.Table.Standing.{standing, length-entries-from}
 use Rattle.rules.proofs.Table.StartRule.{found-below}
 use Rattle.rules.proofs.Claim.Viewing.{viewed, table-stands-there}
-use Rattle.jobs.specs.declared.Job.{Job}
-use Rattle.blocks.specs.Made.{pair-rewritten}
+use Rattle.jobs.specs.declared.Plan.{Plan}
+use Rattle.blocks.specs.Made.{rewrites-plan}
 use Rattle.blocks.proofs.Walking.{in-order}
 use Rattle.rooms.specs.Inner.Candidates.{Placed}
 use Rattle.commands.specs.JobFor.{create-job, delete-job, job-for}
-use Rattle.commands.specs.Begins.{started, returned, job-by}
+use Rattle.commands.specs.Begins.{job-by}
+use Rattle.commands.specs.Inner.Drafted.{Drafts, Means}
 use Rattle.commands.specs.Inner.Asked.{outcome, copies-equal, new-asked, slot-asked}
-use Rattle.commands.specs.declared.Begun.{Begun}
+use Rattle.commands.specs.declared.Draft.the-variants.{Rewritten}
 use Rattle.commands.specs.declared.Outcome.{Outcome}
 use Rattle.commands.specs.declared.Outcome.the-variants.{Started, Refused}
 use Rattle.commands.proofs.EqualCopies.{pairs-agree-if-equal}
-use Rattle.commands.proofs.Asking.{returns-started, refused-by, passed-by}
+use Rattle.commands.proofs.Asking.{refused-by, passed-by}
+use Rattle.commands.proofs.Drafting.{pair-means, drafts-job}
 use Rattle.reading.proofs.Opening.{located}
 
 -- ---- the entries of a standing table
@@ -159,16 +161,16 @@ module _ (s : Setting) (img : List ℕ) (v : View) (h : view s img ≡ given v) 
       create-refused-42 past = rest-asked ∙ rw (le-ltb start (length img) past)
 
       pub create-started : start < length img
-          → (r : Begun) (j : Job) (b : List ℕ)
-          → r ≡ started j
-          → j ≡ pair-rewritten (length img) (s .granule) (v .spt0) (v .spt1) b
+          → (plan : Plan) (b : List ℕ)
+          → plan ≡ rewrites-plan (length img) (s .granule) true (v .spt1) true (v .spt0)
           → b ≡ with-new-row t n start size
-          → r ≡ returned (job-by s img v (create n size))
-      unfolding unless job-for create-job
-      create-started inside r j b er ej eb =
-          returns-started s img v (create n size) r j
+          → Drafts img b (Rewritten plan) (job-by s img v (create n size))
+      unfolding unless job-for create-job Means
+      create-started inside plan b ep′ eb =
+          drafts-job s img v (create n size) b (Rewritten plan)
           (create-steps (v .spt0) (v .spt1) (block img (v .table)) n (created-start img v size) size)
-          er (ej ∙ rw (eb, et, same-start)) (rest-asked ∙ rw (lt-ltb start (length img) inside))
+          (rest-asked ∙ rw (lt-ltb start (length img) inside))
+          (pair-means (length img) (s .granule) plan _ (v .spt0) (v .spt1) b ep′ (rw (eb, et, same-start)) img)
 
 -- ---- delete, after refusals 6 and 7
 
@@ -190,15 +192,15 @@ module _ (s : Setting) (img : List ℕ) (v : View) (h : view s img ≡ given v) 
         passed-by s img v h k o asked q _ ∙ rw (ordered, lt-ltb 0 (length ks) some)
 
     pub delete-started : length ks ≡ 0
-        → (n row : ℕ) (r : Begun) (j : Job) (b : List ℕ)
+        → (n row : ℕ) (plan : Plan) (b : List ℕ)
         → n ≡ entry-count t
         → row ≡ slot-row (rows n t) k
-        → r ≡ started j
-        → j ≡ pair-rewritten (length img) (s .granule) (v .spt0) (v .spt1) b
+        → plan ≡ rewrites-plan (length img) (s .granule) true (v .spt1) true (v .spt0)
         → b ≡ without-row t row
-        → r ≡ returned (job-by s img v (delete k))
-    unfolding job unless job-for delete-job entries
-    delete-started none n row r j b en er′ er ej eb =
-        returns-started s img v (delete k) r j
+        → Drafts img b (Rewritten plan) (job-by s img v (delete k))
+    unfolding job unless job-for delete-job entries Means
+    delete-started none n row plan b en er ep′ eb =
+        drafts-job s img v (delete k) b (Rewritten plan)
         (delete-steps (v .spt0) (v .spt1) (block img (v .table)) k)
-        er (ej ∙ rw (eb, er′, en, et)) (passed-by s img v h k o asked q _ ∙ rw (ordered, none))
+        (passed-by s img v h k o asked q _ ∙ rw (ordered, none))
+        (pair-means (length img) (s .granule) plan _ (v .spt0) (v .spt1) b ep′ (rw (eb, er, en, et)) img)

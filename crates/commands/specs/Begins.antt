@@ -42,9 +42,13 @@ returned (given j) = started j
 unfoldable pub job-by : Setting → List ℕ → View → Command → Answer Job
 job-by s img v c = job s img v c >>= λ _. given (job-for (s .granule) img v c)
 
--- a command started: every refusal in its order, or the job
+-- every refusal in its order, or the job
+abbrev pub start-answer : Setting → List ℕ → Command → Answer Job
+start-answer s img c = view s img >>= λ v. job-by s img v c
+
+-- a command started
 unfoldable pub start-result : Setting → List ℕ → Command → Begun
-start-result s img c = returned (view s img >>= λ v. job-by s img v c)
+start-result s img c = returned (start-answer s img c)
 
 -- refused so, or started with a job of these steps, for an image of this length and with this granule
 unfoldable pub begins : Begun → ℕ → ℕ → Answer (List Step) → Type 0

@@ -13,8 +13,7 @@ use Rattle.rules.specs.Readers.{slot-row}
 use Rattle.rules.specs.Commands.{Command, enable, disable, rename, create, delete, repair, filled, pointers-of, free-place, is-first, giving, half-cleared-names, put-name, has-already, created-start, with-new-row, without-row}
 use Rattle.rules.specs.declared.View.{View}
 use Rattle.jobs.specs.declared.Job.{Job}
-use Rattle.blocks.specs.Made.{rewrites, no-steps, pair-rewritten, places-noted, places-written}
-use Rattle.blocks.specs.declared.Rewriting.{Rewriting}
+use Rattle.blocks.specs.Made.{Rewriting, rewrites, no-steps, pair-rewritten, places-noted, places-written}
 
 -- for an image of this length and with this granule
 module _ (len granule : ℕ) where

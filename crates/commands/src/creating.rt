@@ -1,7 +1,6 @@
 // Create, once the view of the flash is known.
-use super::Begun;
+use super::Draft;
 use super::Outcome;
-use super::refusals;
 use blocks::Target;
 use blocks::made;
 use blocks::tables;
@@ -15,11 +14,14 @@ use rules::View;
 ghost use mathlib.Core.Path.{_≡_};
 ghost use mathlib.Core.Bool.{_&&_, not};
 ghost use lib.Dec.{eqb};
+ghost use lib.ListN.{length};
+ghost use Rattle.rules.specs.Bytes.{block-size};
 ghost use Rattle.rules.specs.Answers.{given};
 ghost use Rattle.rules.specs.Copies.{view};
 ghost use Rattle.rules.specs.Commands.{create, size-right};
 ghost use Rattle.reading.specs.Inner.Located.{Located};
-ghost use Rattle.commands.specs.Begins.{returned, job-by};
+ghost use Rattle.commands.specs.Begins.{job-by};
+ghost use Rattle.commands.specs.Inner.Drafted.{Drafts};
 ghost use Rattle.commands.specs.Inner.Asked.{outcome, new-asked};
 
 // The length of a new slot is a multiple of 4,096 and not 0.
@@ -77,16 +79,23 @@ fn ask_new(image: &[u8], v: View, name: &[u8], size: u64) -> Outcome
 }
 
 // These, then 42, or the job of create: the lowest start, and the table with the new row.
-pub fn create_by(image: &[u8], setting: Setting, v: View, name: &[u8], size: u32) -> Begun
-    requires { ⌜ view setting (now image) ≡ given v ⌝ }
+pub fn create_by(
+    image: &[u8],
+    setting: Setting,
+    v: View,
+    name: &[u8],
+    size: u32,
+    room: &mut [u8],
+) -> Draft
+    requires { ⌜ (view setting (now image) ≡ given v) × (length (now room) ≡ block-size) ⌝ }
     ensures { λ r. ⌜
-        r ≡ returned (job-by setting (now (image .entry)) v (create (now (name .entry)) size))
+        Drafts (now (image .entry)) (now (room .exit)) r (job-by setting (now (image .entry)) v (create (now (name .entry)) size))
         ⌝ }
 {
     let long = size as u64;
     let asked = ask_new(image, v, name, long);
     match asked {
-        Outcome::Refused(why) => refusals::refuse(why),
+        Outcome::Refused(why) => Draft::Refused(why),
         Outcome::Started => {
             let table_at = v.table;
             let pointers_at = v.pointers;
@@ -97,7 +106,7 @@ pub fn create_by(image: &[u8], setting: Setting, v: View, name: &[u8], size: u32
             let len = image.len() as u64;
             let start = starts::lowest_start(t, n, p, places, len, long);
             if len <= start {
-                return refusals::refuse(Refusal {
+                return Draft::Refused(Refusal {
                     number: 42,
                     fault0: NO_FAULT,
                     fault1: NO_FAULT,
@@ -111,8 +120,8 @@ pub fn create_by(image: &[u8], setting: Setting, v: View, name: &[u8], size: u32
                 at0: at0,
                 at1: at1,
             };
-            let table = rows::with_new_row(t, n, name, start, long);
-            refusals::begun(made::pair_rewritten(to, table))
+            rows::put_new_row(t, n, name, start, long, room);
+            Draft::Rewritten(made::pair_plan(to))
         }
     }
 }

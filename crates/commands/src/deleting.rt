@@ -1,5 +1,5 @@
 // Delete, once the view of the flash is known.
-use super::Begun;
+use super::Draft;
 use super::Outcome;
 use super::refusals;
 use blocks::Target;
@@ -13,21 +13,24 @@ use rules::Setting;
 use rules::SlotNo;
 use rules::View;
 ghost use mathlib.Core.Path.{_≡_};
+ghost use lib.ListN.{length};
+ghost use Rattle.rules.specs.Bytes.{block-size};
 ghost use Rattle.rules.specs.Answers.{given};
 ghost use Rattle.rules.specs.Copies.{view};
 ghost use Rattle.rules.specs.Commands.{delete};
-ghost use Rattle.commands.specs.Begins.{returned, job-by};
+ghost use Rattle.commands.specs.Begins.{job-by};
+ghost use Rattle.commands.specs.Inner.Drafted.{Drafts};
 
 // Refusals 6, 7 and 43, or the job of delete: a slot that a place gives is in the boot order.
-pub fn delete_by(image: &[u8], setting: Setting, v: View, slot: SlotNo) -> Begun
-    requires { ⌜ view setting (now image) ≡ given v ⌝ }
+pub fn delete_by(image: &[u8], setting: Setting, v: View, slot: SlotNo, room: &mut [u8]) -> Draft
+    requires { ⌜ (view setting (now image) ≡ given v) × (length (now room) ≡ block-size) ⌝ }
     ensures { λ r. ⌜
-        r ≡ returned (job-by setting (now (image .entry)) v (delete (slot .0)))
+        Drafts (now (image .entry)) (now (room .exit)) r (job-by setting (now (image .entry)) v (delete (slot .0)))
         ⌝ }
 {
     let asked = refusals::ask_slot(image, v, slot);
     match asked {
-        Outcome::Refused(why) => refusals::refuse(why),
+        Outcome::Refused(why) => Draft::Refused(why),
         Outcome::Started => {
             let table_at = v.table;
             let pointers_at = v.pointers;
@@ -38,7 +41,7 @@ pub fn delete_by(image: &[u8], setting: Setting, v: View, slot: SlotNo) -> Begun
             let start = tables::slot_start(t, listed, slot);
             let found = pointers::giving(t, listed, p, places, slot, start);
             if 0 < found.count {
-                return refusals::refuse(Refusal {
+                return Draft::Refused(Refusal {
                     number: 43,
                     fault0: NO_FAULT,
                     fault1: NO_FAULT,
@@ -54,8 +57,8 @@ pub fn delete_by(image: &[u8], setting: Setting, v: View, slot: SlotNo) -> Begun
                 at0: at0,
                 at1: at1,
             };
-            let table = rows::without_row(t, n, row);
-            refusals::begun(made::pair_rewritten(to, table))
+            rows::put_without_row(t, n, row, room);
+            Draft::Rewritten(made::pair_plan(to))
         }
     }
 }

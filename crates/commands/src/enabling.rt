@@ -1,14 +1,13 @@
 // Enable, once the view of the flash is known.
-use super::Begun;
+use super::Draft;
 use super::Outcome;
+use super::drafts;
 use super::refusals;
 use blocks::Target;
-use blocks::bytes;
 use blocks::made;
 use blocks::packing;
 use blocks::pointers;
 use blocks::tables;
-use jobs::Job;
 use places::Places;
 use rules::NO_FAULT;
 use rules::Refusal;
@@ -18,32 +17,34 @@ use rules::View;
 use slots::Rows;
 ghost use mathlib.Core.Path.{_≡_};
 ghost use mathlib.Core.Bool.{true};
-ghost use lib.ListN.{getD};
+ghost use lib.ListN.{length, getD};
+ghost use Rattle.rules.specs.Bytes.{block-size};
 ghost use Rattle.rules.specs.Answers.{given};
 ghost use Rattle.rules.specs.Table.{starts};
 ghost use Rattle.rules.specs.Copies.{view};
 ghost use Rattle.rules.specs.Commands.{enough-places, enable};
 ghost use Rattle.blocks.specs.Inner.Walked.{Readable};
 ghost use Rattle.commands.specs.JobFor.{enable-job};
-ghost use Rattle.commands.specs.Begins.{returned, job-by};
+ghost use Rattle.commands.specs.Begins.{job-by};
+ghost use Rattle.commands.specs.Inner.Drafted.{Drafts, Means};
 
 // Refusals 6, 7, 14 and 15, or the job of enable.
-pub fn enable_by(image: &[u8], setting: Setting, v: View, slot: SlotNo) -> Begun
-    requires { ⌜ view setting (now image) ≡ given v ⌝ }
+pub fn enable_by(image: &[u8], setting: Setting, v: View, slot: SlotNo, room: &mut [u8]) -> Draft
+    requires { ⌜ (view setting (now image) ≡ given v) × (length (now room) ≡ block-size) ⌝ }
     ensures { λ r. ⌜
-        r ≡ returned (job-by setting (now (image .entry)) v (enable (slot .0)))
+        Drafts (now (image .entry)) (now (room .exit)) r (job-by setting (now (image .entry)) v (enable (slot .0)))
         ⌝ }
 {
     let asked = refusals::ask_slot(image, v, slot);
     match asked {
-        Outcome::Refused(why) => refusals::refuse(why),
+        Outcome::Refused(why) => Draft::Refused(why),
         Outcome::Started => {
             let table_at = v.table;
             let t = fields::block_at(image, table_at);
             let rows = slots::rows_of(t);
             let start = tables::slot_start(t, rows, slot);
             if copies::is_erased(image, start as usize) {
-                return refusals::refuse(Refusal {
+                return Draft::Refused(Refusal {
                     number: 14,
                     fault0: NO_FAULT,
                     fault1: NO_FAULT,
@@ -53,7 +54,7 @@ pub fn enable_by(image: &[u8], setting: Setting, v: View, slot: SlotNo) -> Begun
             let p = fields::block_at(image, pointers_at);
             let places = places::places_of(p);
             if !packing::enough_places(t, rows, p, places, slot) {
-                return refusals::refuse(Refusal {
+                return Draft::Refused(Refusal {
                     number: 15,
                     fault0: NO_FAULT,
                     fault1: NO_FAULT,
@@ -67,7 +68,7 @@ pub fn enable_by(image: &[u8], setting: Setting, v: View, slot: SlotNo) -> Begun
                 at0: at0,
                 at1: at1,
             };
-            refusals::begun(enable_job(t, rows, p, places, to, slot, start))
+            enable_job(t, rows, p, places, to, slot, start, room)
         }
     }
 }
@@ -82,24 +83,24 @@ fn enable_job(
     to: Target,
     slot: SlotNo,
     start: u64,
-) -> Job
+    room: &mut [u8],
+) -> Draft
     requires { ⌜
         (Readable (now t) rows (now p) places × (enough-places (starts (now t)) (now p) (slot .0) ≡ true))
-        × (start ≡ getD (starts (now t)) (slot .0) 0)
+        × ((start ≡ getD (starts (now t)) (slot .0) 0) × (length (now room) ≡ block-size))
         ⌝ }
     ensures { λ r. ⌜
-        r ≡ enable-job (to .len) (to .granule) (to .at0) (to .at1) (starts (now (t .entry))) (now (p .entry)) (slot .0)
+        Means (now (room .exit)) r (given
+        (enable-job (to .len) (to .granule) (to .at0) (to .at1) (starts (now (t .entry))) (now (p .entry)) (slot .0)))
         ⌝ }
 {
     if pointers::comes_first(t, rows, p, places, slot) {
-        return made::no_steps(to.len, to.granule);
+        return Draft::NoSteps(made::no_plan(to));
     }
     if places.free.0 < places.count {
         let one = pointers::one_place(places.free);
-        return made::into_places(to, places.offset as u32, one, bytes::bytes_of(start));
+        return drafts::into_places(to, places.offset as u32, one, start, room);
     }
-    made::pair_rewritten(
-        to,
-        packing::order_with_first(t, rows, p, places, slot, start),
-    )
+    packing::order_with_first(t, rows, p, places, slot, start, room);
+    Draft::Rewritten(made::pair_plan(to))
 }

@@ -1,5 +1,6 @@
 // The six commands, started on a lent image that is only read: an answer beside a job.
-mod refusals; // refusals 6 and 7, and what a start returns
+mod drafts; // drafts, and what a start returns by one
+mod refusals; // refusals 6 and 7
 mod pairs; // two copies compared, and the copy not read
 mod enabling; // enable
 mod disabling; // disable, and refusal 8
@@ -8,16 +9,20 @@ mod creating; // create, and refusals 40 to 42
 mod deleting; // delete, and refusal 43
 
 use jobs::Job;
+use jobs::Plan;
 use reading::Viewed;
 use rules::Refusal;
 use rules::Setting;
 use rules::SlotNo;
 use rules::View;
 ghost use mathlib.Core.Path.{_≡_};
+ghost use lib.ListN.{length};
+ghost use Rattle.rules.specs.Bytes.{block-size};
 ghost use Rattle.rules.specs.Answers.{given};
 ghost use Rattle.rules.specs.Copies.{view};
 ghost use Rattle.rules.specs.Commands.{enable, disable, rename, create, delete, repair};
-ghost use Rattle.commands.specs.Begins.{command-of, returned, job-by, start-result};
+ghost use Rattle.commands.specs.Begins.{command-of, job-by, start-answer, start-result};
+ghost use Rattle.commands.specs.Inner.Drafted.{Drafts};
 
 // What is asked of a flash. The new name of a slot is lent beside it; a new slot is created with a length.
 pub enum Command {
@@ -35,6 +40,16 @@ pub enum Outcome {
     Refused(Refusal),
 }
 
+// A command's refusal, or its job in short. The block that both copies of a pair get, or the numbers of the places, stand
+// in the room lent beside it; a repair's two blocks are in the image, at these addresses.
+pub enum Draft {
+    Refused(Refusal),
+    NoSteps(Plan),
+    Rewritten(Plan),
+    IntoPlaces(Plan, u64),
+    Repaired(Plan, usize, usize),
+}
+
 // A start: the job, which is the one of no steps where it was refused, and the answer.
 pub struct Begun {
     pub job: Job,
@@ -47,27 +62,54 @@ pub fn start(image: &[u8], setting: Setting, command: Command, name: &[u8]) -> B
         r ≡ start-result setting (now (image .entry)) (command-of command (now (name .entry)))
         ⌝ }
 {
+    let mut room = blocks::bytes::erased_block();
+    let draft = draft_command(image, setting, command, name, &mut room);
+    drafts::begin(image, draft, &room)
+}
+
+// The same as a draft, for whoever puts the job elsewhere and needs no copy of it.
+pub fn draft_command(
+    image: &[u8],
+    setting: Setting,
+    command: Command,
+    name: &[u8],
+    room: &mut [u8],
+) -> Draft
+    requires { ⌜ length (now room) ≡ block-size ⌝ }
+    ensures { λ r. ⌜
+        Drafts (now (image .entry)) (now (room .exit)) r
+        (start-answer setting (now (image .entry)) (command-of command (now (name .entry))))
+        ⌝ }
+{
     let seen = reading::view(image, setting);
     match seen {
-        Viewed::Refused(why) => refusals::refuse(why),
-        Viewed::At(v) => start_by(image, setting, v, command, name),
+        Viewed::Refused(why) => Draft::Refused(why),
+        Viewed::At(v) => draft_by(image, setting, v, command, name, room),
     }
 }
 
 // The same, once the view of the flash is known.
-fn start_by(image: &[u8], setting: Setting, v: View, command: Command, name: &[u8]) -> Begun
-    requires { ⌜ view setting (now image) ≡ given v ⌝ }
+fn draft_by(
+    image: &[u8],
+    setting: Setting,
+    v: View,
+    command: Command,
+    name: &[u8],
+    room: &mut [u8],
+) -> Draft
+    requires { ⌜ (view setting (now image) ≡ given v) × (length (now room) ≡ block-size) ⌝ }
     ensures { λ r. ⌜
-        r ≡ returned (job-by setting (now (image .entry)) v (command-of command (now (name .entry))))
+        Drafts (now (image .entry)) (now (room .exit)) r
+        (job-by setting (now (image .entry)) v (command-of command (now (name .entry))))
         ⌝ }
 {
     match command {
-        Command::Enable(slot) => enabling::enable_by(image, setting, v, slot),
-        Command::Disable(slot) => disabling::disable_by(image, setting, v, slot),
-        Command::Rename(slot) => renaming::rename_by(image, setting, v, slot, name),
-        Command::Create(size) => creating::create_by(image, setting, v, name, size),
-        Command::Delete(slot) => deleting::delete_by(image, setting, v, slot),
-        Command::Repair => pairs::repair_by(image, setting, v),
+        Command::Enable(slot) => enabling::enable_by(image, setting, v, slot, room),
+        Command::Disable(slot) => disabling::disable_by(image, setting, v, slot, room),
+        Command::Rename(slot) => renaming::rename_by(image, setting, v, slot, name, room),
+        Command::Create(size) => creating::create_by(image, setting, v, name, size, room),
+        Command::Delete(slot) => deleting::delete_by(image, setting, v, slot, room),
+        Command::Repair => pairs::repair_by(image, setting, v, room),
     }
 }
 

@@ -1,33 +1,12 @@
-// Refusals 6 and 7, which enable, disable and rename share, and what a start returns.
-use super::Begun;
+// Refusals 6 and 7, which all commands for a slot share.
 use super::Outcome;
-use jobs::Job;
 use rules::NO_FAULT;
 use rules::Refusal;
 use rules::SlotNo;
 use rules::View;
 ghost use mathlib.Core.Path.{_≡_};
 ghost use Rattle.reading.specs.Inner.Located.{Located};
-ghost use Rattle.commands.specs.Begins.{refusal, started};
 ghost use Rattle.commands.specs.Inner.Asked.{outcome, slot-asked};
-
-pub fn refuse(why: Refusal) -> Begun
-    ensures { λ r. ⌜ r ≡ refusal why ⌝ }
-{
-    Begun {
-        job: blocks::made::no_job(),
-        answer: Outcome::Refused(why),
-    }
-}
-
-pub fn begun(job: Job) -> Begun
-    ensures { λ r. ⌜ r ≡ started job ⌝ }
-{
-    Begun {
-        job: job,
-        answer: Outcome::Started,
-    }
-}
 
 // Both pairs agree, and the slot is there.
 pub fn ask_slot(image: &[u8], v: View, slot: SlotNo) -> Outcome

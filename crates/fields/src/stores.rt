@@ -1,7 +1,7 @@
-// Little-endian numbers stored into lent bytes, and lent bytes copied.
+// Little-endian numbers stored into lent bytes, lent bytes copied, and all bytes made the same.
 ghost use mathlib.Core.Path.{_≡_};
 ghost use Prim.Native.Nat.{_+_, _≤_};
-ghost use lib.ListN.{length};
+ghost use lib.ListN.{length, replicate};
 ghost use Rattle.rules.specs.Bytes.{bytes-of};
 ghost use Rattle.rules.specs.Final.{put-at};
 
@@ -40,6 +40,17 @@ pub fn copy(out: &mut [u8], at: usize, given: &[u8])
     let mut i = 0;
     while i < given.len() {
         out[at + i] = given[i];
+        i += 1;
+    }
+}
+
+// Every byte the same.
+pub fn fill(out: &mut [u8], byte: u8)
+    ensures { λ _. ⌜ now (out .exit) ≡ replicate (length (now (out .entry))) byte ⌝ }
+{
+    let mut i = 0;
+    while i < out.len() {
+        out[i] = byte;
         i += 1;
     }
 }

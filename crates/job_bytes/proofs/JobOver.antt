@@ -1,4 +1,4 @@
--- A job put over the bytes of a buffer: which job the buffer then holds, and that it denotes the same steps. Assumes
+-- A job put over the bytes of a buffer: every byte of it, and that the job then held denotes the same steps. Assumes
 -- nothing.
 use mathlib.Core.Path.{_≡_, refl, sym, ap, ap₂, _∙_}
 use mathlib.Core.List.{List, [], _∷_, _++_, append-assoc}
@@ -14,9 +14,10 @@ use Rattle.jobs.specs.declared.Kind.{Kind}
 use Rattle.jobs.specs.declared.Kind.the-variants.{Nothing, Rewrite, Places}
 use Rattle.jobs.specs.declared.Job.{Job}
 use Rattle.job_bytes.specs.Form.{job-size, value-at, places-at, first-block-at, second-block-at, numbers-encoded, encoded}
-use Rattle.job_bytes.specs.Form.{job-from, block-over, meant-size, job-over, encoded-over, Same, Stored}
+use Rattle.job_bytes.specs.Form.{job-from, block-over, meant-size, job-over, encoded-over, Same}
 use Rattle.job_bytes.proofs.Numbers.{length-numbers}
-use Rattle.job_bytes.proofs.RoundTrip.{Typed, decoded-encoded}
+use Rattle.job_bytes.specs.Inner.Fitting.{Fitting}
+use Rattle.job_bytes.proofs.RoundTrip.{Typed}
 use Rattle.job_bytes.proofs.Filling.{length-stretch, none-filled, fill-put, fill-kept, unfilled, all-filled}
 
 -- ---- the same steps
@@ -45,15 +46,23 @@ part-over Rewrite at offset b old ks v = refl
 part-over Places at offset b old ks v = refl
 
 length-over : (k : Kind) (b old : List ℕ)
-    → length b ≡ block-size
+    → (k ≡ Rewrite → length b ≡ block-size)
     → length old ≡ block-size
     → length (block-over k b old) ≡ block-size
 unfolding block-over
 length-over Nothing b old h e = e
-length-over Rewrite b old h e = h
+length-over Rewrite b old h e = h refl
 length-over Places b old h e = e
 
-module _ (j : Job) (t : Typed j) (bs : List ℕ) (whole : length bs ≡ job-size) where
+pub fitting : {j : Job} → Typed j → Fitting j
+fitting t = record {
+  value = t .value;
+  places = omega (arith, t .places);
+  first = λ _. t .first;
+  second = λ _. t .second;
+}
+
+module _ (j : Job) (f : Fitting j) (bs : List ℕ) (whole : length bs ≡ job-size) where
   abbrev size : ℕ
   size = meant-size (j .plan .count)
 
@@ -64,7 +73,7 @@ module _ (j : Job) (t : Typed j) (bs : List ℕ) (whole : length bs ≡ job-size
   rest = drop size (take (2 * place-room) (drop places-at bs))
 
   length-front : length front ≡ size
-  length-front = length-take-le size (j .places) (omega (arith, t .places))
+  length-front = length-take-le size (j .places) (f .places)
 
   same-numbers : meant (j .plan .count) (front ++ rest) ≡ meant (j .plan .count) (j .places)
   same-numbers =
@@ -100,53 +109,62 @@ module _ (j : Job) (t : Typed j) (bs : List ℕ) (whole : length bs ≡ job-size
       (length-held places-at size (omega arith))
       ∙ rw drop-drop))
 
-  pub typed-over : Typed (job-over bs j)
+  length-places : length (job-over bs j .places) ≡ 2 * place-room
   unfolding job-over job-from
-  typed-over = record {
-    len = t .len;
-    granule = t .granule;
-    count = t .count;
-    done = t .done;
-    offset = t .offset;
-    at = t .at;
-    after = t .after;
-    value = t .value;
-    places =
-        length-append front rest
-        ∙ omega (
-          arith,
-          length-front,
-          length-drop size (take (2 * place-room) (drop places-at bs)),
-          length-held places-at (2 * place-room) (omega arith),
-        );
-    first = length-over (j .plan .first) (j .first) _ (t .first) (length-held first-block-at block-size (omega arith));
-    second = length-over (j .plan .second) (j .second) _ (t .second) (length-held second-block-at block-size (omega arith));
-  }
+  length-places =
+      length-append front rest
+      ∙ omega (
+        arith,
+        length-front,
+        length-drop size (take (2 * place-room) (drop places-at bs)),
+        length-held places-at (2 * place-room) (omega arith),
+      )
 
-  pub job-stored : {o1 o2 o3 o4 o5 : List ℕ} (m : ℕ)
+  length-first : length (job-over bs j .first) ≡ block-size
+  unfolding job-over job-from
+  length-first =
+      length-over (j .plan .first) (j .first) _ (f .first) (length-held first-block-at block-size (omega arith))
+
+  length-second : length (job-over bs j .second) ≡ block-size
+  unfolding job-over job-from
+  length-second =
+      length-over (j .plan .second) (j .second) _ (f .second) (length-held second-block-at block-size (omega arith))
+
+  pub job-encoded : {o1 o2 o3 o4 o5 : List ℕ} (m : ℕ)
       → m ≡ size
       → o1 ≡ put-at 0 (numbers-encoded (j .plan) (j .done)) bs
       → o2 ≡ put-at value-at (j .value) o1
       → o3 ≡ put-at places-at (take m (j .places)) o2
       → o4
       ≡ put-at first-block-at
-      (block-over (j .plan .first) (j .first) (take (length (j .first)) (drop first-block-at o3))) o3
+      (block-over (j .plan .first) (j .first) (take block-size (drop first-block-at o3))) o3
       → o5
       ≡ put-at second-block-at
-      (block-over (j .plan .second) (j .second) (take (length (j .second)) (drop second-block-at o4))) o4
-      → Stored bs j o5
+      (block-over (j .plan .second) (j .second) (take block-size (drop second-block-at o4))) o4
+      → o5 ≡ encoded-over bs j
   unfolding encoded-over encoded job-over job-from
-  job-stored {o5 = o5} m e e1 e2 e3 e4 e5 =
+  job-encoded m e e1 e2 e3 e4 e5 =
       let here : places-at + size + (2 * place-room - size) ≡ first-block-at = omega arith in
       let f1 = fill-put (none-filled bs) 48 (numbers-encoded (j .plan) (j .done)) (length-numbers (j .plan) (j .done)) e1 in
-      let f2 = fill-put f1 8 (j .value) (t .value) e2 in
+      let f2 = fill-put f1 8 (j .value) (f .value) e2 in
       let f3 = fill-put f2 size front length-front (rw e at e3) in
       let f4 = rw (here, places-split) at (fill-kept f3 (2 * place-room - size) (omega arith)) in
-      let f5 = fill-put f4 block-size (job-over bs j .first) (typed-over .first) (rw (t .first, unfilled f4) at e4) in
-      let f6 = fill-put f5 block-size (job-over bs j .second) (typed-over .second) (rw (t .second, unfilled f5) at e5) in
-      let bytes : o5 ≡ encoded-over bs j = all-filled f6 whole ∙ simp append-assoc in
-      record {
-        bytes = bytes;
-        holds = rw bytes (decoded-encoded (job-over bs j) typed-over);
-        same = same-steps;
-      }
+      let f5 = fill-put f4 block-size (job-over bs j .first) length-first (rw (unfilled f4) at e4) in
+      let f6 = fill-put f5 block-size (job-over bs j .second) length-second (rw (unfilled f5) at e5) in
+      all-filled f6 whole ∙ simp append-assoc
+
+pub typed-over : (j : Job) → Typed j → (bs : List ℕ) → length bs ≡ job-size → Typed (job-over bs j)
+unfolding job-over job-from
+typed-over j t bs whole = record {
+  len = t .len;
+  granule = t .granule;
+  count = t .count;
+  done = t .done;
+  offset = t .offset;
+  at = t .at;
+  after = t .after;
+  value = t .value;
+  places = length-places j (fitting t) bs whole;
+  first = length-first j (fitting t) bs whole;
+  second = length-second j (fitting t) bs whole;
+}

@@ -174,9 +174,3 @@ pub record Same (j j′ : Job) : Type 0 where
   pub plan : j′ .plan ≡ j .plan
   pub done : j′ .done ≡ j .done
   pub steps : steps-of j′ ≡ steps-of j
-
--- a buffer afterwards: every byte of it, and the job that it holds
-pub record Stored (bs : List ℕ) (j : Job) (after : List ℕ) : Type 0 where
-  pub bytes : after ≡ encoded-over bs j
-  pub holds : decoded after ≡ given (job-over bs j)
-  pub same : Same j (job-over bs j)

@@ -1,35 +1,47 @@
 // A job into bytes: its numbers, and of its arrays what its steps use.
-use jobs::Job;
 use jobs::Kind;
 use jobs::Plan;
 ghost use mathlib.Core.Path.{_≡_};
 ghost use Prim.Native.Nat.{_+_, _≤_};
 ghost use lib.ListN.{length, take, drop};
+ghost use Rattle.rules.specs.Bytes.{block-size};
 ghost use Rattle.rules.specs.Final.{put-at};
+ghost use Rattle.jobs.specs.Jobs.{lent};
+ghost use Rattle.jobs.specs.declared.Kind.the-variants.{Rewrite};
 ghost use Rattle.job_bytes.specs.Form.{job-size, len-at, offset-at, first-kind-at, kind-number, meant-size};
-ghost use Rattle.job_bytes.specs.Form.{sizes-encoded, addresses-encoded, kinds-encoded, numbers-encoded, block-over, Stored};
+ghost use Rattle.job_bytes.specs.Form.{sizes-encoded, addresses-encoded, kinds-encoded, numbers-encoded, block-over, encoded-over};
+ghost use Rattle.job_bytes.specs.Inner.Fitting.{Fitting};
 
 // The room for places' numbers in a job.
 const PLACE_ROOM: usize = 508;
 
-// The job into a buffer of that length; what its steps do not use is not copied.
-pub fn encode(job: Job, out: &mut [u8])
-    requires { ⌜ length (now out) ≡ job-size ⌝ }
-    ensures { λ _. ⌜ Stored (now (out .entry)) job (now (out .exit)) ⌝ }
+// A job with no step done into a buffer of that length, its arrays lent: what its steps do not use is not copied, and need
+// not be lent.
+pub fn encode<'a>(
+    plan: Plan,
+    first: &'a [u8],
+    second: &'a [u8],
+    places: &'a [u8],
+    value: &'a [u8],
+    out: &mut [u8],
+)
+    requires { ⌜
+        (length (now out) ≡ job-size) × Fitting (lent plan 0 (now first) (now second) (now places) (now value))
+        ⌝ }
+    ensures { λ _. ⌜
+        now (out .exit)
+        ≡ encoded-over (now (out .entry))
+        (lent plan 0 (now (first .entry)) (now (second .entry)) (now (places .entry)) (now (value .entry)))
+        ⌝ }
 {
-    let plan = job.plan;
-    let value = job.value;
-    let places = job.places;
-    let first = job.first;
-    let second = job.second;
-    store_numbers(out, plan, job.done);
-    fields::stores::copy(out, super::VALUE_AT, &value);
+    store_numbers(out, plan, 0);
+    fields::stores::copy(out, super::VALUE_AT, value);
     let size = meant_size(plan.count);
     fields::stores::copy(out, super::PLACES_AT, &places[..size]);
     let one = plan.first;
     let two = plan.second;
-    store_block(out, super::FIRST_BLOCK_AT, one, &first);
-    store_block(out, super::SECOND_BLOCK_AT, two, &second);
+    store_block(out, super::FIRST_BLOCK_AT, one, first);
+    store_block(out, super::SECOND_BLOCK_AT, two, second);
 }
 
 fn store_numbers(out: &mut [u8], plan: Plan, done: usize)
@@ -81,11 +93,11 @@ fn meant_size(count: usize) -> usize
 }
 
 fn store_block(out: &mut [u8], at: usize, kind: Kind, block: &[u8])
-    requires { ⌜ at + length (now block) ≤ length (now out) ⌝ }
+    requires { ⌜ (at + block-size ≤ length (now out)) × (kind ≡ Rewrite → length (now block) ≡ block-size) ⌝ }
     ensures { λ _. ⌜
         now (out .exit)
         ≡ put-at at
-        (block-over kind (now (block .entry)) (take (length (now (block .entry))) (drop at (now (out .entry)))))
+        (block-over kind (now (block .entry)) (take block-size (drop at (now (out .entry)))))
         (now (out .entry))
         ⌝ }
 {

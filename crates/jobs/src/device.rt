@@ -2,26 +2,15 @@
 ghost use mathlib.Core.Path.{_≡_};
 ghost use mathlib.Core.List.{[], _∷_};
 ghost use Prim.Native.Nat.{ℕ, _+_, _≤_};
-ghost use lib.ListN.{length, replicate};
-ghost use Rattle.rules.specs.Bytes.{erased-byte};
+ghost use lib.ListN.{length};
 ghost use Rattle.rules.specs.Steps.{wiped, steps, programs};
-
-fn fill(s: &mut [u8])
-    ensures { λ _. ⌜ now (s .exit) ≡ replicate (length (now (s .entry))) erased-byte ⌝ }
-{
-    let mut i = 0;
-    while i < s.len() {
-        s[i] = 0xFF;
-        i += 1;
-    }
-}
 
 // So many bytes from an address on become 0xFF.
 pub fn erase(image: &mut [u8], at: usize, n: usize)
     requires { ⌜ at + n ≤ length (now image) ⌝ }
     ensures { λ _. ⌜ now (image .exit) ≡ wiped at n (now (image .entry)) ⌝ }
 {
-    fill(&mut image[at..at + n]);
+    fields::stores::fill(&mut image[at..at + n], 0xFF);
 }
 
 // Bytes programmed upward from an address, whatever the granule: new byte = old AND given.

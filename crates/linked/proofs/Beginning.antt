@@ -19,7 +19,7 @@ use Rattle.commands.specs.declared.Begun.{Begun}
 use Rattle.commands.proofs.StartLists.{start-lists}
 use Rattle.job_bytes.specs.Form.{job-size, malformed, decoded, job-over, encoded-over, Same}
 use Rattle.job_bytes.proofs.RoundTrip.{Typed, decoded-encoded}
-use Rattle.job_bytes.proofs.JobOver.{same-steps, typed-over}
+use Rattle.job_bytes.proofs.JobOver.{fitting, same-steps, typed-over}
 use Rattle.linked.specs.Begun.{Handed, handed, handed-over, started-into, for-job, begun-as}
 use Rattle.linked.proofs.StartTyped.{start-typed}
 
@@ -30,13 +30,12 @@ module _ (before : List ℕ) where
   unfolding started-into
   other-length b h = rw (ne-eqb (length before) job-size h)
 
-  pub right-length : (b started : Begun) (h : Handed)
+  pub right-length : (b : Begun) (h : Handed)
       → length before ≡ job-size
-      → b ≡ started
       → h ≡ handed-over before (b .job) (b .answer)
-      → h ≡ started-into before started
+      → h ≡ started-into before b
   unfolding started-into
-  right-length b started h whole e f = rw (eq-eqb (length before) job-size whole, ← e) f
+  right-length b h whole e = rw (eq-eqb (length before) job-size whole) e
 
 -- ---- the job that the buffer holds
 
@@ -63,7 +62,7 @@ module _ (before : List ℕ) (whole : length before ≡ job-size) (len granule :
           over,
           ap (λ (h : Handed). decoded (h .buffer)) left
               ∙ decoded-encoded over (typed-over (b .job) typed before whole),
-          lists-same (b .job) over len granule ss (same-steps (b .job) typed before whole) lists,
+          lists-same (b .job) over len granule ss (same-steps (b .job) (fitting typed) before whole) lists,
         ),
       )
 

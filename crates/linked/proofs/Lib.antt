@@ -8,3 +8,4 @@ pub mod RowLengths
 pub mod StartTyped
 pub mod Beginning
 pub mod NamedEntries
+pub mod HandedOver

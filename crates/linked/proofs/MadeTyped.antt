@@ -6,8 +6,7 @@ use native.Mathlib.Omega.{arith}
 use lib.ListN.{length, length-replicate}
 use Rattle.rules.specs.Bytes.{block-size, erased-byte}
 use Rattle.jobs.specs.Jobs.{place-room}
-use Rattle.blocks.specs.Made.{erased-block, rewrites, no-steps, pair-rewritten, places-noted, places-written}
-use Rattle.blocks.specs.declared.Rewriting.{Rewriting}
+use Rattle.blocks.specs.Made.{Rewriting, erased-block, rewrites, no-steps, pair-rewritten, places-noted, places-written}
 use Rattle.blocks.proofs.Noting.{length-noted}
 use Rattle.job_bytes.proofs.RoundTrip.{Typed}
 

@@ -4,3 +4,4 @@ pub mod Begun
 pub mod Ran
 pub mod Counted
 pub mod Inspected
+pub mod Inner

@@ -1,16 +1,20 @@
 // A job started: the steps of a command as bytes in the buffer lent for them.
-use commands::Begun;
+use blocks::bytes;
 use commands::Command;
-use commands::Outcome;
+use commands::Draft;
+use job_bytes::encoding;
 use rules::Setting;
 use rules::SlotNo;
 ghost use mathlib.Core.Path.{_≡_};
 ghost use lib.ListN.{length};
+ghost use Rattle.rules.specs.Bytes.{block-size};
 ghost use Rattle.rules.specs.Numbers.{setting};
 ghost use Rattle.rules.specs.Commands.{enable, disable, rename, create, delete, repair};
 ghost use Rattle.commands.specs.Begins.{command-of, start-result};
 ghost use Rattle.job_bytes.specs.Form.{job-size};
-ghost use Rattle.linked.specs.Begun.{handed, handed-over, started-into};
+ghost use Rattle.commands.specs.Inner.Drafted.{drafted, Sound};
+ghost use Rattle.linked.specs.Begun.{handed, started-into};
+ghost use Rattle.linked.specs.Inner.Answered.{answered-over};
 
 // The length of a buffer for a job.
 #[no_mangle]
@@ -20,17 +24,36 @@ pub extern "C" fn delunkpawi_job_size() -> usize
     job_bytes::JOB_SIZE
 }
 
-// The refusal, or the job into the buffer and 0.
-fn hand_over(begun: Begun, job: &mut [u8]) -> u8
-    requires { ⌜ length (now job) ≡ job-size ⌝ }
-    ensures { λ r. ⌜ handed r (now (job .exit)) ≡ handed-over (now (job .entry)) (begun .job) (begun .answer) ⌝ }
+// The refusal, or 0 and the job into the buffer. What the job's steps do not use is not copied.
+fn hand_over(image: &[u8], draft: Draft, room: &[u8], job: &mut [u8]) -> u8
+    requires { ⌜
+        (length (now job) ≡ job-size) × (Sound (now image) draft × (length (now room) ≡ block-size))
+        ⌝ }
+    ensures { λ r. ⌜
+        handed r (now (job .exit))
+        ≡ answered-over (now (job .entry)) (drafted (now (image .entry)) (now (room .entry)) draft)
+        ⌝ }
 {
-    let answer = begun.answer;
-    match answer {
-        Outcome::Refused(why) => why.number,
-        Outcome::Started => {
-            let value = begun.job;
-            job_bytes::encoding::encode(value, job);
+    let zeros = [0; 8];
+    match draft {
+        Draft::Refused(why) => why.number,
+        Draft::NoSteps(plan) => {
+            encoding::encode(plan, b"", b"", b"", &zeros, job);
+            0
+        }
+        Draft::Rewritten(plan) => {
+            encoding::encode(plan, room, room, b"", &zeros, job);
+            0
+        }
+        Draft::IntoPlaces(plan, value) => {
+            let eight = bytes::bytes_of(value);
+            encoding::encode(plan, b"", b"", &room[..1016], &eight, job);
+            0
+        }
+        Draft::Repaired(plan, from, after) => {
+            let first = fields::block_at(image, from);
+            let second = fields::block_at(image, after);
+            encoding::encode(plan, first, second, b"", &zeros, job);
             0
         }
     }
@@ -47,7 +70,9 @@ fn start_into(image: &[u8], setting: Setting, command: Command, name: &[u8], job
     if job.len() != job_bytes::JOB_SIZE {
         return 90;
     }
-    hand_over(commands::start(image, setting, command, name), job)
+    let mut room = bytes::erased_block();
+    let draft = commands::draft_command(image, setting, command, name, &mut room);
+    hand_over(image, draft, &room, job)
 }
 
 // Enable a slot: it comes first in the boot order.

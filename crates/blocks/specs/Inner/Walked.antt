@@ -1,4 +1,5 @@
 -- What only the contracts of inner functions cite: the walks over the places of a pointer block. Assumes nothing.
+use mathlib.Core.Path.{_≡_}
 use mathlib.Core.Bool.{Bool, true, false}
 use mathlib.Core.List.{List}
 use Prim.Native.Nat.{ℕ, _+_, _*_, _/_, _%_, _≤_, _<_}
@@ -12,7 +13,6 @@ use Rattle.slots.specs.Inner.RowsOf.{HasRows}
 use Rattle.slots.specs.declared.Rows.{Rows}
 use Rattle.places.specs.Inner.PlacesOf.{HasPlaces}
 use Rattle.places.specs.declared.Places.{Places}
-use Rattle.blocks.specs.declared.Packed.{Packed}
 
 -- a table with these rows, and a pointer block with these places
 pub record Readable (t : List ℕ) (r : Rows) (p : List ℕ) (k : Places) : Type 0 where
@@ -39,6 +39,7 @@ is-live (Stray v) = false
 unfoldable pub noted : ℕ → ℕ → List ℕ → List ℕ
 noted i k bs = set (set bs (2 * i) (k % 256)) (2 * i + 1) (k / 256)
 
--- a pointer block with these pointers from the lowest place up
-abbrev pub packed : List ℕ → List ℕ → Packed
-packed p vs = record { block = filled p vs; count = length vs }
+-- a pointer block with these pointers from the lowest place up, and how many
+pub record Packed (p vs : List ℕ) (n : ℕ) (made : List ℕ) : Type 0 where
+  pub block : made ≡ filled p vs
+  pub count : n ≡ length vs

@@ -1,27 +1,16 @@
--- `start` returns what the definition gives: a refusal of the view, or what is started by it. Assumes nothing.
+-- `start` returns what the definition gives, by a draft. Assumes nothing.
+use mathlib.Core.Path.{ap, _∙_}
 use borrow.Author.Needs.{needs}
-use Rattle.rules.specs.Answers.{_>>=_}
-use Rattle.reading.proofs.Opening.{was-viewed, was-refused}
 use Rattle.commands.specs.Begins.{returned, start-result}
 use Rattle.commands.proofs.start.Statement.{statement}
 use Rattle.commands.proofs.start.Tie as tie
 
-start-by-requires : tie.Need-start-by-requires
-start-by-requires c κs =
-    let called = c .before .before .before in
-    was-viewed _ _ (called .view .ensures) (c .before .seen2 .given .1)
+begin-requires : tie.Need-begin-requires
+begin-requires c κs = (c .before .before .draft-command .ensures .sound, search needs)
 
 returns : tie.Need-returns
-unfolding start-result returned _>>=_
-returns c =
-    let seen = c .before .before in
-    rw (was-refused _ _ (seen .before .before .view .ensures) (seen .seen .given .1)) (c .refuse .ensures)
-
-returns-2 : tie.Need-returns-2
-unfolding start-result _>>=_
-returns-2 c =
-    let seen = c .before .before in
-    rw (was-viewed _ _ (seen .before .before .view .ensures) (seen .seen2 .given .1)) (c .start-by .ensures)
+unfolding start-result
+returns c = c .begin .ensures ∙ ap returned (c .before .before .before .draft-command .ensures .answer)
 
 pub start-spec : {M : Type 1} → statement M
 start-spec =
@@ -31,6 +20,5 @@ start-spec =
     (λ c. search needs)
     (λ c κs. search needs)
     (λ c. search needs)
-    start-by-requires
-    returns
-    returns-2)
+    begin-requires
+    returns)

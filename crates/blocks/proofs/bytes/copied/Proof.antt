@@ -7,9 +7,11 @@ use Rattle.blocks.proofs.bytes.copied.Tie as tie
 
 returns : tie.Need-returns
 returns c =
-    let s = c .before .before .before in
-    c .put .ensures ∙ copied-block (s .args .block .now) (c .before .erased-block .result) (s .pre)
-    (c .before .erased-block .ensures)
+    let at-copy = c .before in
+    let at-erased-block = at-copy .before .before in
+    let s = at-erased-block .before .before in
+    at-copy .copy .ensures ∙ copied-block (s .args .block .now) (at-erased-block .erased-block .result) (s .pre)
+    (at-erased-block .erased-block .ensures)
 
 pub copied-spec : {M : Type 1} → statement M
-copied-spec = tie.close (tie.spec (λ c κs. search needs) (λ c κs. search needs) returns)
+copied-spec = tie.close (tie.spec (λ c κs. search needs) (λ c. search needs) (λ c κs. search needs) returns)

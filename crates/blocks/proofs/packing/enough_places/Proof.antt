@@ -14,7 +14,6 @@ use Rattle.rules.specs.Pointers.{place-count, places, order}
 use Rattle.rules.specs.Commands.{enough-places}
 use Rattle.slots.proofs.RowsOf.{count-is}
 use Rattle.places.proofs.Free as free
-use Rattle.blocks.specs.declared.Packed.{Packed}
 use Rattle.blocks.proofs.OrderPacked.{length-pointers, room-for-first}
 use Rattle.blocks.proofs.packing.enough_places.Statement.{statement}
 use Rattle.blocks.proofs.packing.enough_places.Tie as tie
@@ -36,17 +35,20 @@ returns c =
 
 -- how many other slots the order has
 others-counted : (c : tie.After-order-without)
-    → let a = c .before .before .before .before .before .before .args in
-    c .order-without .result .count ≡ length (without (a .slot .0) (order (starts (a .t .now)) (places (a .p .now))))
+    → let a = c .before .before .before .before .before .before .before .before .args in
+    c .order-without .result ≡ length (without (a .slot .0) (order (starts (a .t .now)) (places (a .p .now))))
 unfolding order-by
 others-counted c =
-    let a = c .before .before .before .before .before .before .args in
-    ap (λ (m : Packed). m .count) (c .order-without .ensures)
+    let a = c .before .before .before .before .before .before .before .before .args in
+    c .order-without .ensures .count
     ∙ length-pointers (starts (a .t .now)) (without (a .slot .0) (order (starts (a .t .now)) (places (a .p .now))))
+
+order-without-requires : tie.Need-order-without-requires
+order-without-requires c κs = (c .before .before .before .before .before .before .before .pre .0, search needs)
 
 add-result : tie.Need-add-result
 add-result c =
-    let s = c .before .before .before .before .before .before .before in
+    let s = c .before .before .before .before .before .before .before .before .before in
     let a = s .args in
     omega (
       arith,
@@ -61,11 +63,19 @@ and-the-slot n = omega arith
 returns-2 : tie.Need-returns-2
 unfolding enough-places
 returns-2 c =
-    let s = c .before .before .before .before .before .before .before .before in
+    let s = c .before .before .before .before .before .before .before .before .before .before in
     let a = s .args in
     let o = without (a .slot .0) (order (starts (a .t .now)) (places (a .p .now))) in
     rw (others-counted (c .before .before), free.count-is (a .p .now) (a .places) (s .pre .0 .pointers))
     (ap (λ (n : ℕ). leb n (place-count (a .p .now))) (and-the-slot (length o)))
 
 pub enough-places-spec : {M : Type 1} → statement M
-enough-places-spec = tie.close (tie.spec returns (λ c κs. search needs) add-result returns-2)
+enough-places-spec =
+    tie.close
+    (tie.spec
+    returns
+    (λ c κs. search needs)
+    (λ c. search needs)
+    order-without-requires
+    add-result
+    returns-2)

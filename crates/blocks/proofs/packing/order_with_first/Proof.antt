@@ -1,5 +1,5 @@
 -- `order_with_first` is the block with the slot's pointer as its last. Assumes nothing.
-use mathlib.Core.Path.{_≡_, ap}
+use mathlib.Core.Path.{_≡_}
 use mathlib.Core.List.{_∷_}
 use Prim.Native.Nat.{_<_}
 use native.Mathlib.Omega.{arith}
@@ -7,94 +7,87 @@ use borrow.Author.Tests.{leb-true}
 use lib.ListN.{length}
 use borrow.Author.Needs.{needs}
 use Rattle.rules.specs.Lists.{without}
-use Rattle.rules.specs.Bytes.{block-size}
 use Rattle.rules.specs.Table.{starts}
 use Rattle.rules.specs.Copies.{order-by}
 use Rattle.rules.specs.Pointers.{place-count, places, order}
 use Rattle.rules.specs.Commands.{pointers-of, enough-places}
 use Rattle.rules.proofs.Pointers.PointerHeader.{places-fit}
 use Rattle.places.proofs.Free.{offset-is}
-use Rattle.blocks.specs.declared.Packed.{Packed}
 use Rattle.blocks.proofs.Putting.{pointer-put-after}
 use Rattle.blocks.proofs.OrderPacked.{pointers-first, length-pointers}
 use Rattle.blocks.proofs.packing.order_with_first.Statement.{statement}
 use Rattle.blocks.proofs.packing.order_with_first.Tie as tie
 
 -- a place is left for the slot
-place-left : (c : tie.After-order-without) → c .order-without .result .count < place-count (c .before .before .before .args .p .now)
+place-left : (c : tie.After-order-without) → c .order-without .result < place-count (c .before .before .before .before .before .args .p .now)
 unfolding order-by enough-places
 place-left c =
-    let s = c .before .before .before in
+    let s = c .before .before .before .before .before in
     let a = s .args in
     let p = a .p .now in
     let o = without (a .slot .0) (order (starts (a .t .now)) (places p)) in
     omega (
       arith,
-      ap (λ (m : Packed). m .count) (c .order-without .ensures),
+      c .order-without .ensures .count,
       length-pointers (starts (a .t .now)) o,
       leb-true (length (a .slot .0 ∷ o)) (place-count p) (s .pre .1 .0),
     )
-
-whole-block : (c : tie.After-order-without) → length (c .order-without .result .block) ≡ block-size
-whole-block c = search needs
 
 eight-bytes : (c : tie.After-bytes-of) → length (c .bytes-of .result) ≡ 8
 eight-bytes c = search needs
 
 mul-copy : tie.Need-mul-copy
 mul-copy c =
-    let at-order-without = c .before .before .before .before in
-    let s = at-order-without .before .before .before in
+    let s = c .before .before .before .before .before .before .before .before .before in
     omega (
       arith,
-      place-left at-order-without,
-      places-fit (s .args .p .now) (s .pre .0 .pointers .block .stands) .in-block,
+      place-left (c .before .before .before .before),
+      places-fit (s .args .p .now) (s .pre .0 .0 .pointers .block .stands) .in-block,
     )
 
 add-copy : tie.Need-add-copy
 add-copy c =
-    let at-order-without = c .before .before .before .before .before in
-    let s = at-order-without .before .before .before in
+    let s = c .before .before .before .before .before .before .before .before .before .before in
+    let h = s .pre .0 .0 .pointers in
     omega (
       arith,
-      place-left at-order-without,
-      places-fit (s .args .p .now) (s .pre .0 .pointers .block .stands) .in-block,
-      offset-is (s .args .p .now) (s .args .places) (s .pre .0 .pointers),
+      place-left (c .before .before .before .before .before),
+      places-fit (s .args .p .now) (h .block .stands) .in-block,
+      offset-is (s .args .p .now) (s .args .places) h,
     )
 
 copy-requires : tie.Need-copy-requires
 copy-requires c κs =
-    let at-bytes-of = c .before .before .before .before in
-    let at-order-without = at-bytes-of .before .before in
-    let s = at-order-without .before .before .before in
+    let s = c .before .before .before .before .before .before .before .before .before .before .before in
+    let h = s .pre .0 .0 .pointers in
     omega (
       arith,
-      place-left at-order-without,
-      places-fit (s .args .p .now) (s .pre .0 .pointers .block .stands) .in-block,
-      offset-is (s .args .p .now) (s .args .places) (s .pre .0 .pointers),
-      whole-block at-order-without,
-      eight-bytes at-bytes-of,
+      place-left (c .before .before .before .before .before .before),
+      places-fit (s .args .p .now) (h .block .stands) .in-block,
+      offset-is (s .args .p .now) (s .args .places) h,
+      s .pre .0 .1,
+      eight-bytes (c .before .before .before),
     )
 
 returns : tie.Need-returns
 unfolding order-by
 returns c =
-    let at-copy = c .before in
-    let at-bytes-of = at-copy .before .before .before .before .before in
-    let at-order-without = at-bytes-of .before .before in
-    let s = at-order-without .before .before .before in
+    let at-bytes-of = c .before .before .before .before .before .before in
+    let at-order-without = c .before .before .before .before .before .before .before .before .before in
+    let s = c .before .before .before .before .before .before .before .before .before .before .before .before .before .before in
     let a = s .args in
     let p = a .p .now in
+    let h = s .pre .0 .0 .pointers in
     let slots = starts (a .t .now) in
     let o = without (a .slot .0) (order slots (places p)) in
-    let made = at-order-without .order-without .result in
-    let packed-is = at-order-without .order-without .ensures in
+    let packed = at-order-without .order-without .ensures in
     rw (pointers-first (a .slot .0) slots o, ← s .pre .1 .1)
-    (pointer-put-after p (pointers-of slots o) (made .block) (at-bytes-of .bytes-of .result)
-    (at-copy .copy .last .0) (a .start) (a .places .offset) (made .count)
-    (omega (arith, places-fit p (s .pre .0 .pointers .block .stands) .in-block, s .pre .0 .pointers .block .whole))
-    (place-left at-order-without) (ap (λ (m : Packed). m .block) packed-is) (ap (λ (m : Packed). m .count) packed-is)
-    (offset-is p (a .places) (s .pre .0 .pointers)) (at-bytes-of .bytes-of .ensures) (at-copy .copy .ensures))
+    (pointer-put-after p (pointers-of slots o) (at-order-without .order-without .last .1 .1 .1 .1 .1 .0)
+    (at-bytes-of .bytes-of .result) (c .before .before .copy .last .0) (a .start) (a .places .offset)
+    (at-order-without .order-without .result)
+    (omega (arith, places-fit p (h .block .stands) .in-block, h .block .whole))
+    (place-left at-order-without) (packed .block) (packed .count)
+    (offset-is p (a .places) h) (at-bytes-of .bytes-of .ensures) (c .before .before .copy .ensures))
 
 pub order-with-first-spec : {M : Type 1} → statement M
 order-with-first-spec =
@@ -102,9 +95,9 @@ order-with-first-spec =
     (tie.spec
     (λ c κs. search needs)
     (λ c κs. search needs)
-    (λ c. search needs)
     mul-copy
     add-copy
     (λ c. search needs)
     copy-requires
+    (λ c. search needs)
     returns)

@@ -14,7 +14,7 @@ use Rattle.blocks.proofs.packing.order_without.Tie as tie
 -- the front of the row is the boot order
 in-front : (c : tie.After-write-order)
     → take (c .write-order .result) (c .write-order .last .1 .1 .1 .1 .0)
-    ≡ order-by (c .before .before .before .before .args .t .now) (c .before .before .before .before .args .p .now)
+    ≡ order-by (c .before .before .before .before .before .args .t .now) (c .before .before .before .before .before .args .p .now)
 in-front c =
     front-of-row _ _ (c .write-order .last .1 .1 .1 .1 .0) (c .write-order .result) (c .write-order .ensures .0)
     (c .write-order .ensures .1)
@@ -22,44 +22,43 @@ in-front c =
 write-order-requires : tie.Need-write-order-requires
 unfolding order-by
 write-order-requires c κs =
-    let s = c .before .before .before in
+    let s = c .before .before .before .before in
     let a = s .args in
-    let count = count-is (a .t .now) (a .rows) (s .pre .table) in (
-      (s .pre .table, s .pre .pointers),
-      omega (arith, s .pre .table .table .few, count, few-in-order (a .t .now) (places (a .p .now))),
+    let h = s .pre .0 in
+    let count = count-is (a .t .now) (a .rows) (h .table) in (
+      (h .table, h .pointers),
+      omega (arith, h .table .table .few, count, few-in-order (a .t .now) (places (a .p .now))),
     )
 
 array-share-prefix-row : tie.Need-array-share-prefix-row
 unfolding order-by
 array-share-prefix-row c =
     let at-write-order = c .before in
-    let s = at-write-order .before .before .before .before in
+    let s = c .before .before .before .before .before .before in
     let a = s .args in
+    let h = s .pre .0 in
     let room : length (at-write-order .write-order .last .1 .1 .1 .1 .0) ≡ 127 = search needs in
     omega (
       arith,
       room,
-      s .pre .table .table .few,
-      count-is (a .t .now) (a .rows) (s .pre .table),
+      h .table .table .few,
+      count-is (a .t .now) (a .rows) (h .table),
       at-write-order .write-order .ensures .0,
       few-in-order (a .t .now) (places (a .p .now)),
     )
 
 slice-aggregate-pack-without : tie.Need-slice-aggregate-pack-without
-slice-aggregate-pack-without c =
-    let at-write-order = c .before .before in
-    at-write-order .write-order .ensures .0 ∙ ap length (sym (in-front at-write-order))
+slice-aggregate-pack-without c = c .before .before .write-order .ensures .0 ∙ ap length (sym (in-front (c .before .before)))
 
 pack-without-requires : tie.Need-pack-without-requires
 unfolding order-by
 pack-without-requires c κs =
-    let at-write-order = c .before .before in
-    let s = at-write-order .before .before .before .before in
+    let s = c .before .before .before .before .before .before .before .before in
     let a = s .args in
-    (s .pre, rw (in-front at-write-order, ← length-places (a .p .now)) (numbers-of-order (a .t .now) (places (a .p .now))))
+    (s .pre, rw (in-front (c .before .before .before), ← length-places (a .p .now)) (numbers-of-order (a .t .now) (places (a .p .now))))
 
 returns : tie.Need-returns
-returns c = c .pack-without .ensures ∙ rw (in-front (c .before .before .before))
+returns c = rw (in-front (c .before .before .before .before .before .before)) at (c .before .before .pack-without .ensures)
 
 pub order-without-spec : {M : Type 1} → statement M
 order-without-spec =
@@ -70,4 +69,5 @@ order-without-spec =
     array-share-prefix-row
     slice-aggregate-pack-without
     pack-without-requires
+    (λ c. search needs)
     returns)

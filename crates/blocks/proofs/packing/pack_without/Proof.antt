@@ -16,84 +16,77 @@ use Rattle.blocks.proofs.packing.pack_without.Statement.{statement}
 use Rattle.blocks.proofs.packing.pack_without.Tie as tie
 
 abbrev Inv-loop : tie.InvT-loop
-Inv-loop t rows p order slot offset b₀ count₀ i₀ b count i =
-    ((count + i ≤ length order) × (length b ≡ block-size))
-    × ((b ≡ filled p (put-from (slot .0) (starts t) order i))
+Inv-loop t rows p order slot room₀ offset count₀ i₀ room count i =
+    ((count + i ≤ length order) × (length room ≡ block-size))
+    × ((room ≡ filled p (put-from (slot .0) (starts t) order i))
     × (count ≡ length (put-from (slot .0) (starts t) order i)))
 
 abbrev μ-loop : tie.MeasureT-loop
-μ-loop t rows p order slot offset b₀ count₀ i₀ b count i = i
+μ-loop t rows p order slot room₀ offset count₀ i₀ room count i = i
 
 eight-bytes : (c : tie.After-bytes-of Inv-loop μ-loop) → length (c .bytes-of .result) ≡ 8
 eight-bytes c = search needs
 
 loop-holds : tie.Need-loop-holds Inv-loop μ-loop
 loop-holds c =
-    let s = c .before .before .before .before in
+    let s = c .before .before .before .before .before .before .before .before in
     let a = s .args in
     let none = none-put (a .slot .0) (starts (a .t .now)) (a .order .now) in (
       (omega arith, search needs),
-      (rw none (c .emptied .ensures), rw none refl),
+      (rw none (c .before .before .emptied .ensures), rw none refl),
     )
 
 slot-start-requires : tie.Need-slot-start-requires Inv-loop μ-loop
 slot-start-requires c κs =
-    let at = c .before .before .before .before in
-    let s = at .before .before .before .before .before in
-    (s .pre .0 .table, s .pre .1 .below (at .loop .i - 1) (omega arith))
+    let s = c .before .before .before .before .before .before .before .before .before .before .before .before .before in
+    (s .pre .0 .0 .table, s .pre .1 .below (c .before .before .before .before .loop .i - 1) (omega arith))
 
 add-copy : tie.Need-add-copy Inv-loop μ-loop
 add-copy c =
-    let s = c .before .before .before .before .before .before .before .before .before .before .before .before in
-    let fits = places-fit (s .args .p .now) (s .pre .0 .pointers .block .stands) in
-    omega (
-      arith,
-      fits .in-block,
-      s .pre .1 .few,
-      offset-is (s .args .p .now) (s .args .places) (s .pre .0 .pointers),
-    )
+    let s = c .before .before .before .before .before .before .before .before .before .before .before .before .before .before .before .before in
+    let h = s .pre .0 .0 .pointers in
+    let fits = places-fit (s .args .p .now) (h .block .stands) in
+    omega (arith, fits .in-block, s .pre .1 .few, offset-is (s .args .p .now) (s .args .places) h)
 
 copy-requires : tie.Need-copy-requires Inv-loop μ-loop
 copy-requires c κs =
-    let at-loop-test = c .before .before .before .before .before .before .before in
-    let at = at-loop-test .before in
-    let s = at .before .before .before .before .before in
-    let fits = places-fit (s .args .p .now) (s .pre .0 .pointers .block .stands) in
+    let s = c .before .before .before .before .before .before .before .before .before .before .before .before .before .before .before .before .before in
+    let h = s .pre .0 .0 .pointers in
+    let fits = places-fit (s .args .p .now) (h .block .stands) in
     omega (
       arith,
       fits .in-block,
       s .pre .1 .few,
-      offset-is (s .args .p .now) (s .args .places) (s .pre .0 .pointers),
-      at-loop-test .loop-test .taken,
-      at .loop .inv .0,
+      offset-is (s .args .p .now) (s .args .places) h,
+      c .before .before .before .before .before .before .before .loop-test .taken,
+      c .before .before .before .before .before .before .before .before .loop .inv .0,
       eight-bytes (c .before .before),
     )
 
 loop-again : tie.Need-loop-again Inv-loop μ-loop
 loop-again c =
-    let at-copy = c .before in
-    let at-bytes-of = at-copy .before .before .before in
-    let at-slot-start = at-bytes-of .before in
-    let at-if1 = at-slot-start .before in
-    let at-loop-test = at-if1 .before .before .before in
-    let at = at-loop-test .before in
-    let s = at .before .before .before .before .before in
+    let at-copy = c .before .before in
+    let at-bytes-of = c .before .before .before .before .before in
+    let at-slot-start = c .before .before .before .before .before .before in
+    let at = c .before .before .before .before .before .before .before .before .before .before .before in
+    let s = c .before .before .before .before .before .before .before .before .before .before .before .before .before .before .before .before .before .before .before .before in
     let a = s .args in
     let p = a .p .now in
+    let h = s .pre .0 .0 .pointers in
     let slots = starts (a .t .now) in
     let o = a .order .now in
     let i = at .loop .i in
     let us = put-from (a .slot .0) slots o i in
-    let fits = places-fit p (s .pre .0 .pointers .block .stands) in
-    let left = at-loop-test .loop-test .taken in
-    let turn = put-turn (a .slot .0) slots o i (omega arith) (omega arith) (at-if1 .if1 .taken) in (
+    let fits = places-fit p (h .block .stands) in
+    let left = c .before .before .before .before .before .before .before .before .before .before .loop-test .taken in
+    let turn = put-turn (a .slot .0) slots o i (omega arith) (omega arith) (c .before .before .before .before .before .before .before .if1 .taken) in (
       (omega arith, search needs),
       (
         rw turn
-            (pointer-put-after p us (at .loop .b) (at-bytes-of .bytes-of .result) (at-copy .copy .last .0)
+            (pointer-put-after p us (at .loop .room) (at-bytes-of .bytes-of .result) (at-copy .copy .last .0)
             (getD slots (getD o (i - 1) 0) 0) (a .places .offset) (at .loop .count)
-            (omega (arith, fits .in-block, s .pre .0 .pointers .block .whole)) (omega (arith, s .pre .1 .few))
-            (at .loop .inv .1 .0) (at .loop .inv .1 .1) (offset-is p (a .places) (s .pre .0 .pointers))
+            (omega (arith, fits .in-block, h .block .whole)) (omega (arith, s .pre .1 .few))
+            (at .loop .inv .1 .0) (at .loop .inv .1 .1) (offset-is p (a .places) h)
             (at-bytes-of .bytes-of .ensures ∙ rw (at-slot-start .slot-start .ensures))
             (at-copy .copy .ensures)),
         rw (turn, length-append us (getD slots (getD o (i - 1) 0) 0 ∷ [])) (omega (arith, at .loop .inv .1 .1)),
@@ -103,8 +96,7 @@ loop-again c =
 loop-again-2 : tie.Need-loop-again-2 Inv-loop μ-loop
 loop-again-2 c =
     let at = c .before .before .before .before in
-    let s = at .before .before .before .before .before in
-    let a = s .args in
+    let a = c .before .before .before .before .before .before .before .before .before .before .before .before .before .args in
     let turn = left-out-turn (a .slot .0) (starts (a .t .now)) (a .order .now) (at .loop .i) (omega arith)
     (omega arith) (c .if1 .left) in
     ((omega arith, search needs), rw turn (at .loop .inv .1))
@@ -113,7 +105,7 @@ returns : tie.Need-returns Inv-loop μ-loop
 returns c =
     let at = c .before in
     let over : at .loop .i ≡ 0 = omega arith in
-    rw (rw over at (at .loop .inv .1 .0), rw over at (at .loop .inv .1 .1))
+    record { block = rw over at (at .loop .inv .1 .0); count = rw over at (at .loop .inv .1 .1) }
 
 pub pack-without-spec : {M : Type 1} → statement M
 pack-without-spec =
@@ -129,7 +121,6 @@ pack-without-spec =
     slot-start-requires
     (λ c κs. search needs)
     (λ c. search needs)
-    (λ c. search needs)
     add-copy
     (λ c. search needs)
     copy-requires
@@ -138,4 +129,5 @@ pack-without-spec =
     loop-again
     (λ c. search needs)
     loop-again-2
+    (λ c. search needs)
     returns)

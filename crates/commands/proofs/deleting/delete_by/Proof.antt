@@ -14,7 +14,8 @@ use Rattle.blocks.specs.declared.Noted.{Noted}
 use Rattle.reading.specs.Inner.Located.{Located}
 use Rattle.reading.proofs.Opening.{located, has-entries, has-pointers}
 use Rattle.commands.proofs.Locating.{readable}
-use Rattle.commands.proofs.Asking.{returns-refused, slot-counted, row-below}
+use Rattle.commands.proofs.Drafting.{drafts-refused}
+use Rattle.commands.proofs.Asking.{slot-counted, row-below}
 use Rattle.commands.proofs.NewAsked.{delete-refused, delete-refused-43, delete-started}
 use borrow.Author.Needs.{needs}
 use Rattle.commands.proofs.deleting.delete_by.Statement.{statement}
@@ -28,8 +29,7 @@ noted-count ks e = ap (λ (f : Noted). f .count) e
 -- what the view says of where the blocks are
 where-blocks-are : (s : tie.Start) → Located (s .args .image .now) (s .args .v)
 where-blocks-are s =
-    located (s .args .setting) (s .args .image .now) (s .args .v)
-    (s .pre)
+    located (s .args .setting) (s .args .image .now) (s .args .v) (s .pre .0)
 
 -- the table and the pointer block read
 blocks-read : (c : tie.After-places-of)
@@ -37,8 +37,8 @@ blocks-read : (c : tie.After-places-of)
     (c .before .before .block-at2 .result .now) (c .places-of .result)
 blocks-read c =
     let at-block-at2 = c .before .before in
-    let at-block-at = at-block-at2 .before in
-    let s = at-block-at .before .before .before .before .before in
+    let at-block-at = c .before .before .before in
+    let s = c .before .before .before .before .before .before .before .before .before in
     readable (where-blocks-are s) (at-block-at .block-at .result .now)
     (at-block-at2 .block-at2 .result .now) (c .before .rows-of .result) (c .places-of .result)
     (at-block-at .block-at .ensures) (at-block-at2 .block-at2 .ensures) (c .before .rows-of .ensures)
@@ -46,7 +46,7 @@ blocks-read c =
 
 ask-slot-requires : tie.Need-ask-slot-requires
 ask-slot-requires c κs =
-    let s = c .before in
+    let s = c .before .before in
     where-blocks-are s
 
 enum-told : tie.Need-enum-told
@@ -54,38 +54,38 @@ enum-told c = search needs
 
 block-at-requires : tie.Need-block-at-requires
 block-at-requires c κs =
-    let s = c .before .before .before .before in
+    let s = c .before .before .before .before .before in
     where-blocks-are s .table-inside
 
 block-at-requires-2 : tie.Need-block-at-requires-2
 block-at-requires-2 c κs =
-    let s = c .before .before .before .before .before in
+    let s = c .before .before .before .before .before .before in
     where-blocks-are s .pointers-inside
 
 rows-of-requires : tie.Need-rows-of-requires
 rows-of-requires c κs =
     let at-block-at = c .before in
-    let s = at-block-at .before .before .before .before .before in
+    let s = c .before .before .before .before .before .before .before in
     let t = at-block-at .block-at .result .now in
     has-entries (where-blocks-are s) t (entry-count t) (at-block-at .block-at .ensures) refl
 
 places-of-requires : tie.Need-places-of-requires
 places-of-requires c κs =
     let at-block-at2 = c .before in
-    let s = at-block-at2 .before .before .before .before .before .before in
+    let s = c .before .before .before .before .before .before .before .before in
     has-pointers (where-blocks-are s) (at-block-at2 .block-at2 .result .now)
     (at-block-at2 .block-at2 .ensures)
 
 slot-start-requires : tie.Need-slot-start-requires
 slot-start-requires c κs =
     let at-block-at2 = c .before .before in
-    let at-block-at = at-block-at2 .before in
-    let at-enum-told = at-block-at .before in
-    let at-ask-slot = at-enum-told .before .before in
-    let s = at-ask-slot .before .before in
+    let at-block-at = c .before .before .before in
+    let at-enum-told = c .before .before .before .before in
+    let at-ask-slot = c .before .before .before .before .before .before in
+    let s = c .before .before .before .before .before .before .before .before .before in
     let a = s .args in (
       blocks-read c .table,
-      slot-counted (a .setting) (a .image .now) (a .v) (s .pre) (a .slot .0)
+      slot-counted (a .setting) (a .image .now) (a .v) (s .pre .0) (a .slot .0)
           (at-ask-slot .ask-slot .result) (at-ask-slot .ask-slot .ensures) (at-enum-told .enum-told .given .1)
           (at-block-at .block-at .result .now) (at-block-at .block-at .ensures .0),
     )
@@ -95,13 +95,13 @@ giving-requires c κs = (blocks-read (c .before), c .slot-start .ensures)
 
 returns : tie.Need-returns
 returns c =
-    let at-if1 = c .before in
-    let at-giving = at-if1 .before .before in
-    let at-block-at2 = at-giving .before .before .before .before in
-    let at-block-at = at-block-at2 .before in
-    let at-enum-told = at-block-at .before in
-    let at-ask-slot = at-enum-told .before .before in
-    let s = at-ask-slot .before .before in
+    let at-if1 = c in
+    let at-giving = c .before .before in
+    let at-block-at2 = c .before .before .before .before .before .before in
+    let at-block-at = c .before .before .before .before .before .before .before in
+    let at-enum-told = c .before .before .before .before .before .before .before .before in
+    let at-ask-slot = c .before .before .before .before .before .before .before .before .before .before in
+    let s = c .before .before .before .before .before .before .before .before .before .before .before .before .before in
     let a = s .args in
     let img = a .image .now in
     let st = a .setting in
@@ -109,39 +109,38 @@ returns c =
     let p = at-block-at2 .block-at2 .result .now in
     let ks = places-giving t p (a .slot .0) in
     let counted = noted-count ks (at-giving .giving .ensures) in
-    returns-refused st img (a .v) (delete (a .slot .0)) (c .refuse2 .result) (numbered 43)
-    (c .refuse2 .ensures)
-    (delete-refused-43 st img (a .v) (s .pre) (a .slot .0) (at-ask-slot .ask-slot .result)
+    drafts-refused st img (a .v) (delete (a .slot .0)) _ (numbered 43)
+    (delete-refused-43 st img (a .v) (s .pre .0) (a .slot .0) (at-ask-slot .ask-slot .result)
     (at-ask-slot .ask-slot .ensures) (at-enum-told .enum-told .given .1) t p ks
     (at-block-at .block-at .ensures .0) (at-block-at2 .block-at2 .ensures .0) refl (omega arith))
 
 slot-row-requires : tie.Need-slot-row-requires
 slot-row-requires c κs =
     let at-block-at = c .before .before .before .before .before .before .before .before in
-    let s = at-block-at .before .before .before .before .before in
+    let s = c .before .before .before .before .before .before .before .before .before .before .before .before .before .before in
     has-entries (where-blocks-are s) (at-block-at .block-at .result .now)
     (c .entry-count .result) (at-block-at .block-at .ensures) (c .entry-count .ensures)
 
 cast-at0 : tie.Need-cast-at0
 cast-at0 c =
-    let s = c .before .before .before .before .before .before .before .before .before .before .before .before .before .before .before in
+    let s = c .before .before .before .before .before .before .before .before .before .before .before .before .before .before .before .before in
     let l = where-blocks-are s in omega (arith, l .spt0-inside, l .short)
 
 cast-at1 : tie.Need-cast-at1
 cast-at1 c =
-    let s = c .before .before .before .before .before .before .before .before .before .before .before .before .before .before .before .before in
+    let s = c .before .before .before .before .before .before .before .before .before .before .before .before .before .before .before .before .before in
     let l = where-blocks-are s in omega (arith, l .spt1-inside, l .short)
 
-without-row-requires : tie.Need-without-row-requires
-without-row-requires c κs =
-    let at-slot-row = c .before .before in
-    let at-entry-count = at-slot-row .before in
-    let at-giving = at-entry-count .before .before .before in
-    let at-block-at2 = at-giving .before .before .before .before in
-    let at-block-at = at-block-at2 .before in
-    let at-enum-told = at-block-at .before in
-    let at-ask-slot = at-enum-told .before .before in
-    let s = at-ask-slot .before .before in
+put-without-row-requires : tie.Need-put-without-row-requires
+put-without-row-requires c κs =
+    let at-slot-row = c .before .before .before in
+    let at-entry-count = c .before .before .before .before in
+    let at-giving = c .before .before .before .before .before .before .before in
+    let at-block-at2 = c .before .before .before .before .before .before .before .before .before .before .before in
+    let at-block-at = c .before .before .before .before .before .before .before .before .before .before .before .before in
+    let at-enum-told = c .before .before .before .before .before .before .before .before .before .before .before .before .before in
+    let at-ask-slot = c .before .before .before .before .before .before .before .before .before .before .before .before .before .before .before in
+    let s = c .before .before .before .before .before .before .before .before .before .before .before .before .before .before .before .before .before .before in
     let a = s .args in
     let img = a .image .now in
     let st = a .setting in
@@ -150,39 +149,39 @@ without-row-requires c κs =
     let few : n ≤ most-entries =
     rw (at-entry-count .entry-count .ensures, at-block-at .block-at .ensures .0) (where-blocks-are s .count-right) in (
       (at-block-at .block-at .ensures .1, (at-entry-count .entry-count .ensures, few)),
-      row-below st img (a .v) (s .pre) (a .slot .0) (at-ask-slot .ask-slot .result)
-          (at-ask-slot .ask-slot .ensures) (at-enum-told .enum-told .given .1) t n
-          (at-block-at .block-at .ensures .0) (at-entry-count .entry-count .ensures)
-          (at-slot-row .slot-row .result .0) (at-slot-row .slot-row .ensures .0),
+      (
+        row-below st img (a .v) (s .pre .0) (a .slot .0) (at-ask-slot .ask-slot .result)
+            (at-ask-slot .ask-slot .ensures) (at-enum-told .enum-told .given .1) t n
+            (at-block-at .block-at .ensures .0) (at-entry-count .entry-count .ensures)
+            (at-slot-row .slot-row .result .0) (at-slot-row .slot-row .ensures .0),
+        s .pre .1,
+      ),
     )
 
 returns-2 : tie.Need-returns-2
 returns-2 c =
-    let at-asked = c .before .before in
-    let at-ask-slot = at-asked .before .before in
-    let s = at-ask-slot .before .before in
+    let at-asked = c .before in
+    let at-ask-slot = c .before .before .before in
+    let s = c .before .before .before .before .before .before in
     let a = s .args in
     let img = a .image .now in
     let st = a .setting in
-    returns-refused st img (a .v) (delete (a .slot .0)) (c .refuse .result)
-    (at-asked .asked .given .0 .0) (c .refuse .ensures)
-    (delete-refused st img (a .v) (s .pre) (a .slot .0) (at-ask-slot .ask-slot .result)
+    drafts-refused st img (a .v) (delete (a .slot .0)) _ (at-asked .asked .given .0 .0)
+    (delete-refused st img (a .v) (s .pre .0) (a .slot .0) (at-ask-slot .ask-slot .result)
     (at-ask-slot .ask-slot .ensures)
     (at-asked .asked .given .0 .0) (at-asked .asked .given .1))
 
 returns-3 : tie.Need-returns-3
 returns-3 c =
-    let at-pair = c .before in
-    let at-row = at-pair .before in
-    let at-slot-row = at-row .before .before .before in
-    let at-entry-count = at-slot-row .before in
-    let at-if1 = at-entry-count .before in
-    let at-giving = at-if1 .before .before in
-    let at-block-at2 = at-giving .before .before .before .before in
-    let at-block-at = at-block-at2 .before in
-    let at-enum-told = at-block-at .before in
-    let at-ask-slot = at-enum-told .before .before in
-    let s = at-ask-slot .before .before in
+    let at-slot-row = c .before .before .before .before .before .before .before in
+    let at-entry-count = c .before .before .before .before .before .before .before .before in
+    let at-if1 = c .before .before .before .before .before .before .before .before .before in
+    let at-giving = c .before .before .before .before .before .before .before .before .before .before .before in
+    let at-block-at2 = c .before .before .before .before .before .before .before .before .before .before .before .before .before .before .before in
+    let at-block-at = c .before .before .before .before .before .before .before .before .before .before .before .before .before .before .before .before in
+    let at-enum-told = c .before .before .before .before .before .before .before .before .before .before .before .before .before .before .before .before .before in
+    let at-ask-slot = c .before .before .before .before .before .before .before .before .before .before .before .before .before .before .before .before .before .before .before in
+    let s = c .before .before .before .before .before .before .before .before .before .before .before .before .before .before .before .before .before .before .before .before .before .before in
     let a = s .args in
     let img = a .image .now in
     let st = a .setting in
@@ -190,13 +189,12 @@ returns-3 c =
     let p = at-block-at2 .block-at2 .result .now in
     let ks = places-giving t p (a .slot .0) in
     let counted = noted-count ks (at-giving .giving .ensures) in
-    delete-started st img (a .v) (s .pre) (a .slot .0) (at-ask-slot .ask-slot .result)
+    delete-started st img (a .v) (s .pre .0) (a .slot .0) (at-ask-slot .ask-slot .result)
     (at-ask-slot .ask-slot .ensures) (at-enum-told .enum-told .given .1) t p ks
     (at-block-at .block-at .ensures .0) (at-block-at2 .block-at2 .ensures .0) refl (omega arith)
-    (at-entry-count .entry-count .result) (at-slot-row .slot-row .result .0) (c .begun .result)
-    (at-pair .pair-rewritten .result) (at-row .without-row .result) (at-entry-count .entry-count .ensures)
-    (at-slot-row .slot-row .ensures .0) (c .begun .ensures) (at-pair .pair-rewritten .ensures)
-    (at-row .without-row .ensures)
+    (at-entry-count .entry-count .result) (at-slot-row .slot-row .result .0) (c .pair-plan .result)
+    _ (at-entry-count .entry-count .ensures) (at-slot-row .slot-row .ensures .0)
+    (c .pair-plan .ensures) (c .before .before .before .put-without-row .ensures)
 
 pub delete-by-spec : {M : Type 1} → statement M
 delete-by-spec =
@@ -204,7 +202,6 @@ delete-by-spec =
     (tie.spec
     ask-slot-requires
     (λ c. search needs)
-    (λ c κs. search needs)
     enum-told
     block-at-requires
     block-at-requires-2
@@ -212,14 +209,13 @@ delete-by-spec =
     places-of-requires
     slot-start-requires
     giving-requires
-    (λ c κs. search needs)
     returns
     (λ c κs. search needs)
     slot-row-requires
     cast-at0
     cast-at1
-    without-row-requires
-    (λ c κs. search needs)
+    put-without-row-requires
     (λ c κs. search needs)
     returns-2
+    (λ c. search needs)
     returns-3)

@@ -1,5 +1,5 @@
 -- `enable_job` is the job of enable. Assumes nothing.
-use mathlib.Core.Path.{_≡_, sym, _∙_}
+use mathlib.Core.Path.{_≡_, refl, sym, _∙_}
 use native.Mathlib.Omega.{arith}
 use borrow.Author.Needs.{needs}
 use Rattle.rules.specs.Table.{starts}
@@ -9,6 +9,7 @@ use Rattle.rules.specs.Commands.{free-place}
 use Rattle.rules.proofs.Pointers.PointerHeader.{places-fit}
 use Rattle.places.specs.Inner.PlacesOf.{free-from}
 use Rattle.places.proofs.Free.{free-by-value, offset-is, count-is, free-is}
+use Rattle.commands.proofs.Drafting.{none-means, pair-means}
 use Rattle.commands.proofs.CommandJobs.{enable-none, enable-place, enable-rewrite}
 use Rattle.commands.proofs.enabling.enable_job.Statement.{statement}
 use Rattle.commands.proofs.enabling.enable_job.Tie as tie
@@ -26,24 +27,21 @@ free-by-definition s =
 returns : tie.Need-returns
 unfolding order-by
 returns c =
-    let at-if1 = c .before in
-    let at-comes-first = at-if1 .before in
-    let start = at-comes-first .before .before .before in
-    let a = start .args in
-    c .no-steps .ensures
-    ∙ (enable-none (a .to .len) (a .to .granule) (a .to .at0) (a .to .at1) (starts (a .t .now)) (a .p .now) (a .slot .0)
-    (sym (at-comes-first .comes-first .ensures) ∙ at-if1 .if1 .taken))
+    let a = c .before .before .before .before .before .before .args in
+    none-means (a .to .len) (a .to .granule) (c .no-plan .result) _ _ (c .no-plan .ensures)
+    (enable-none (a .to .len) (a .to .granule) (a .to .at0) (a .to .at1) (starts (a .t .now)) (a .p .now) (a .slot .0)
+    (sym (c .before .before .comes-first .ensures) ∙ c .before .if1 .taken))
 
 one-place-requires : tie.Need-one-place-requires
 one-place-requires c κs =
-    let s = c .before .before .before .before .before .before in
+    let s = c .before .before .before .before .before .before .before in
     let p = s .args .p .now in
     let h = s .pre .0 .0 .pointers in
     omega (arith, places-fit p (h .block .stands) .at-most-508, count-is p (s .args .places) h)
 
 cast-into-places : tie.Need-cast-into-places
 cast-into-places c =
-    let s = c .before .before .before .before .before .before .before .before in
+    let s = c .before .before .before .before .before .before .before .before .before in
     let p = s .args .p .now in
     let h = s .pre .0 .0 .pointers in
     omega (arith, places-fit p (h .block .stands) .in-block, offset-is p (s .args .places) h)
@@ -51,37 +49,34 @@ cast-into-places c =
 returns-2 : tie.Need-returns-2
 unfolding order-by
 returns-2 c =
-    let at-bytes-of = c .before in
-    let at-one-place = at-bytes-of .before .before in
-    let at-if2 = at-one-place .before in
-    let at-if1 = at-if2 .before .before in
-    let at-comes-first = at-if1 .before in
-    let start = at-comes-first .before .before .before in
+    let at-one-place = c .before .before .before .before .before in
+    let start = c .before .before .before .before .before .before .before .before .before .before .before .before .before in
     let a = start .args in
     let h = start .pre .0 .0 .pointers in
-    c .into-places .ensures
-    ∙ (enable-place (a .to .len) (a .to .granule) (a .to .at0) (a .to .at1) (starts (a .t .now)) (a .p .now) (a .slot .0)
-    (sym (at-comes-first .comes-first .ensures) ∙ at-if1 .if1 .left) (a .places .free .0)
-    (a .start) (free-by-definition start) (start .pre .1) (a .places .offset) (at-one-place .one-place .result)
-    (at-bytes-of .bytes-of .result) (omega (arith, count-is (a .p .now) (a .places) h, at-if2 .if2 .taken))
+    rw (enable-place (a .to .len) (a .to .granule) (a .to .at0) (a .to .at1) (starts (a .t .now)) (a .p .now) (a .slot .0)
+    (sym (c .before .before .before .before .before .before .before .before .before .comes-first .ensures) ∙ c .before .before .before .before .before .before .before .before .if1 .left) (a .places .free .0)
+    (a .start) (free-by-definition start) (start .pre .1 .0) (a .places .offset) (at-one-place .one-place .result) _
+    (omega (arith, count-is (a .p .now) (a .places) h, c .before .before .before .before .before .before .if2 .taken))
     (offset-is (a .p .now) (a .places) h)
-    (at-one-place .one-place .ensures) (at-bytes-of .bytes-of .ensures))
+    (at-one-place .one-place .ensures) refl)
+    at (c .before .before .into-places .ensures)
+
+order-with-first-requires : tie.Need-order-with-first-requires
+order-with-first-requires c κs =
+    let h = c .before .before .before .before .before .before .before .before .pre in
+    ((h .0 .0, h .1 .1), (h .0 .1, h .1 .0))
 
 returns-3 : tie.Need-returns-3
 unfolding order-by
 returns-3 c =
-    let at-order-with-first = c .before in
-    let at-if2 = at-order-with-first .before in
-    let at-if1 = at-if2 .before .before in
-    let at-comes-first = at-if1 .before in
-    let start = at-comes-first .before .before .before in
+    let start = c .before .before .before .before .before .before .before .before .before .before .before .before in
     let a = start .args in
-    c .pair-rewritten .ensures
-    ∙ (enable-rewrite (a .to .len) (a .to .granule) (a .to .at0) (a .to .at1) (starts (a .t .now)) (a .p .now) (a .slot .0)
-    (sym (at-comes-first .comes-first .ensures) ∙ at-if1 .if1 .left) (a .places .free .0)
-    (a .start) (free-by-definition start) (start .pre .1) (at-order-with-first .order-with-first .result)
-    (omega (arith, count-is (a .p .now) (a .places) (start .pre .0 .0 .pointers), at-if2 .if2 .left))
-    (at-order-with-first .order-with-first .ensures))
+    pair-means (a .to .len) (a .to .granule) (c .pair-plan .result) _ (a .to .at0) (a .to .at1) _ (c .pair-plan .ensures)
+    (enable-rewrite (a .to .len) (a .to .granule) (a .to .at0) (a .to .at1) (starts (a .t .now)) (a .p .now) (a .slot .0)
+    (sym (c .before .before .before .before .before .before .before .before .comes-first .ensures) ∙ c .before .before .before .before .before .before .before .if1 .left) (a .places .free .0)
+    (a .start) (free-by-definition start) (start .pre .1 .0) _
+    (omega (arith, count-is (a .p .now) (a .places) (start .pre .0 .0 .pointers), c .before .before .before .before .before .if2 .left))
+    (c .before .before .before .order-with-first .ensures))
 
 pub enable-job-spec : {M : Type 1} → statement M
 enable-job-spec =
@@ -93,8 +88,9 @@ enable-job-spec =
     one-place-requires
     cast-into-places
     (λ c κs. search needs)
-    (λ c κs. search needs)
+    (λ c. search needs)
     returns-2
+    order-with-first-requires
     (λ c κs. search needs)
-    (λ c κs. search needs)
+    (λ c. search needs)
     returns-3)

@@ -1,44 +1,77 @@
 -- `repair_by` starts repair as its definition says. Assumes nothing.
-use mathlib.Core.Path.{_∙_}
+use mathlib.Core.Path.{_≡_, refl, ap}
 use native.Mathlib.Omega.{arith}
+use lib.Dec.{eqb}
 use borrow.Author.Needs.{needs}
-use Rattle.commands.specs.JobFor.{repair-job}
+use Rattle.rules.specs.Commands.{repair, repair-steps, job}
+use Rattle.jobs.specs.declared.Plan.{Plan}
+use Rattle.blocks.specs.Made.{rewrites}
 use Rattle.reading.specs.Inner.Located.{Located}
 use Rattle.reading.proofs.Opening.{located}
-use Rattle.commands.proofs.Asking.{repair-started}
+use Rattle.commands.specs.JobFor.{repaired, repair-job, job-for}
+use Rattle.commands.specs.Inner.Drafted.{drafted, Sound}
+use Rattle.commands.proofs.Drafting.{drafts-job}
+use Rattle.commands.proofs.EqualCopies.{either-within}
 use Rattle.commands.proofs.pairs.repair_by.Statement.{statement}
 use Rattle.commands.proofs.pairs.repair_by.Tie as tie
 
 -- what the view says of where the blocks are
 where-blocks-are : (s : tie.Start) → Located (s .args .image .now) (s .args .v)
-where-blocks-are s =
-    located (s .args .setting) (s .args .image .now) (s .args .v)
-    (s .pre)
+where-blocks-are s = located (s .args .setting) (s .args .image .now) (s .args .v) (s .pre .0)
 
-repaired-requires : tie.Need-repaired-requires
-repaired-requires c κs =
-    let s = c .before in
-    let l = where-blocks-are s in
-    ((l .spt0-inside, l .spt1-inside), (l .table-inside, l .short))
+cast-table-at : tie.Need-cast-table-at
+cast-table-at c =
+    let v = c .before .before .before .args .v in
+    let l = where-blocks-are (c .before .before .before) in
+    let small = either-within (eqb (v .table) (v .spt0)) (v .spt1) (v .spt0) 0x10000000
+    (omega (arith, l .spt1-inside, l .short)) (omega (arith, l .spt0-inside, l .short)) in
+    omega (arith, small, c .other-copy .ensures)
 
-repaired-requires-2 : tie.Need-repaired-requires-2
-repaired-requires-2 c κs =
-    let s = c .before .before in
-    let l = where-blocks-are s in
-    ((l .cpb0-inside, l .cpb1-inside), (omega (arith, l .pointers-inside, l .cpb0-inside), l .short))
+cast-pointers-at : tie.Need-cast-pointers-at
+cast-pointers-at c =
+    let v = c .before .before .before .before .args .v in
+    let l = where-blocks-are (c .before .before .before .before) in
+    let small = either-within (eqb (v .pointers) (v .cpb0)) (v .cpb1) (v .cpb0) 0x10000000
+    (omega (arith, l .cpb1-inside, l .short)) (omega (arith, l .cpb0-inside, l .short)) in
+    omega (arith, small, c .other-copy2 .ensures)
+
+same-blocks-requires : tie.Need-same-blocks-requires
+same-blocks-requires c κs =
+    let l = where-blocks-are (c .before .before .before .before) in
+    (l .spt0-inside, l .spt1-inside)
+
+same-blocks-requires-2 : tie.Need-same-blocks-requires-2
+same-blocks-requires-2 c κs =
+    let l = where-blocks-are (c .before .before .before .before .before) in
+    (l .cpb0-inside, l .cpb1-inside)
 
 returns : tie.Need-returns
-unfolding repair-job
+unfolding drafted Sound job job-for repair-job repaired rewrites
 returns c =
-    let at-rewrites = c .before in
-    let at-repaired2 = at-rewrites .before in
-    let at-repaired = at-repaired2 .before in
-    let a = at-repaired .before .before .args in
-    repair-started (a .setting) (a .image .now) (a .v) (c .begun .result)
-    (at-rewrites .rewrites .result) (c .begun .ensures)
-    (at-rewrites .rewrites .ensures ∙ rw (at-repaired .repaired .ensures, at-repaired2 .repaired2 .ensures))
+    let a = c .before .before .before .before .before .before .before .args in
+    let l = where-blocks-are (c .before .before .before .before .before .before .before) in
+    drafts-job (a .setting) (a .image .now) (a .v) repair _ _ (repair-steps (a .setting) (a .image .now) (a .v)) refl
+    (record {
+      answer =
+          rw (
+            c .rewrites-plan .ensures,
+            c .before .before .before .before .other-copy .ensures,
+            c .before .before .before .other-copy2 .ensures,
+            c .before .before .same-blocks .ensures,
+            c .before .same-blocks2 .ensures,
+          );
+      sound = (ap (λ (q : Plan). q .count) (c .rewrites-plan .ensures), (l .table-inside, l .pointers-inside));
+    })
 
 pub repair-by-spec : {M : Type 1} → statement M
 repair-by-spec =
     tie.close
-    (tie.spec repaired-requires repaired-requires-2 (λ c κs. search needs) (λ c κs. search needs) returns)
+    (tie.spec
+    (λ c κs. search needs)
+    cast-table-at
+    (λ c κs. search needs)
+    cast-pointers-at
+    same-blocks-requires
+    same-blocks-requires-2
+    (λ c κs. search needs)
+    returns)

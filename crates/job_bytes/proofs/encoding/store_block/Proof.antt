@@ -1,6 +1,7 @@
 -- `store_block` puts a block that is to be rewritten. Assumes nothing.
-use lib.ListN.{length}
+use native.Mathlib.Omega.{arith}
 use borrow.Author.Needs.{needs}
+use Rattle.rules.specs.Bytes.{block-size}
 use Rattle.job_bytes.specs.Form.{block-over}
 use Rattle.job_bytes.proofs.Filling.{put-own}
 use Rattle.job_bytes.proofs.encoding.store_block.Statement.{statement}
@@ -9,11 +10,16 @@ use Rattle.job_bytes.proofs.encoding.store_block.Tie as tie
 enum-told : tie.Need-enum-told
 enum-told c = search needs
 
+copy-requires : tie.Need-copy-requires
+copy-requires c κs =
+    let s = c .before .before .before .before .before in
+    omega (arith, s .pre .0, s .pre .1 (c .before .enum-told2 .given .1))
+
 returns : tie.Need-returns
 unfolding block-over
 returns c =
     let s = c .before .before .before .before in
-    rw (c .enum-told .given .1) (put-own (s .args .at) (length (s .args .block .now)) (s .args .out .now) (s .pre))
+    rw (c .enum-told .given .1) (put-own (s .args .at) block-size (s .args .out .now) (s .pre .0))
 
 returns-2 : tie.Need-returns-2
 unfolding block-over
@@ -23,7 +29,7 @@ returns-3 : tie.Need-returns-3
 unfolding block-over
 returns-3 c =
     let s = c .before .before .before .before in
-    rw (c .enum-told3 .given .1) (put-own (s .args .at) (length (s .args .block .now)) (s .args .out .now) (s .pre))
+    rw (c .enum-told3 .given .1) (put-own (s .args .at) block-size (s .args .out .now) (s .pre .0))
 
 pub store-block-spec : {M : Type 1} → statement M
 store-block-spec =
@@ -31,7 +37,7 @@ store-block-spec =
     (tie.spec
     enum-told
     (λ c. search needs)
-    (λ c κs. search needs)
+    copy-requires
     (λ c. search needs)
     returns
     (λ c. search needs)

@@ -1,7 +1,9 @@
 -- `start_into` starts a command into a buffer. Assumes nothing.
+use mathlib.Core.Path.{ap, _∙_}
 use borrow.Author.Needs.{needs}
-use Rattle.commands.specs.Begins.{command-of, start-result}
-use Rattle.linked.specs.Begun.{handed}
+use Rattle.commands.specs.Begins.{command-of, start-answer, start-result}
+use Rattle.linked.specs.Inner.Answered.{answered-over}
+use Rattle.linked.proofs.HandedOver.{returned-over}
 use Rattle.linked.proofs.Beginning.{other-length, right-length}
 use Rattle.linked.proofs.starts.start_into.Statement.{statement}
 use Rattle.linked.proofs.starts.start_into.Tie as tie
@@ -12,16 +14,28 @@ returns c =
     other-length (a .job .now)
     (start-result (a .setting) (a .image .now) (command-of (a .command) (a .name .now))) (c .if1 .taken)
 
+hand-over-requires : tie.Need-hand-over-requires
+hand-over-requires c κs = (c .before .before .before .before .before .before .if1 .left, (c .before .before .before .draft-command .ensures .sound, search needs))
+
 returns-2 : tie.Need-returns-2
+unfolding start-result
 returns-2 c =
-    let at-hand-over = c .before .before in
-    let at-start = at-hand-over .before .before in
-    let at-if1 = at-start .before in
-    let a = at-if1 .before .before .before .before .args in
-    right-length (a .job .now) (at-start .start .result)
-    (start-result (a .setting) (a .image .now) (command-of (a .command) (a .name .now)))
-    (handed (at-hand-over .hand-over .result) (at-hand-over .hand-over .last .1 .0))
-    (at-if1 .if1 .left) (at-start .start .ensures) (at-hand-over .hand-over .ensures)
+    let a = c .before .before .before .before .before .before .before .before .before .before .before .before .before .args in
+    let asked = command-of (a .command) (a .name .now) in
+    right-length (a .job .now) (start-result (a .setting) (a .image .now) asked) _ (c .before .before .before .before .before .before .before .before .before .if1 .left)
+    (c .before .before .hand-over .ensures
+    ∙ ap (answered-over (a .job .now)) (c .before .before .before .before .before .before .draft-command .ensures .answer)
+    ∙ returned-over (a .job .now) (start-answer (a .setting) (a .image .now) asked))
 
 pub start-into-spec : {M : Type 1} → statement M
-start-into-spec = tie.close (tie.spec returns (λ c κs. search needs) (λ c κs. search needs) (λ c. search needs) returns-2)
+start-into-spec =
+    tie.close
+    (tie.spec
+    returns
+    (λ c κs. search needs)
+    (λ c. search needs)
+    (λ c κs. search needs)
+    (λ c. search needs)
+    hand-over-requires
+    (λ c. search needs)
+    returns-2)

@@ -1,4 +1,4 @@
--- `fill` makes every byte 0xFF. Assumes nothing.
+-- `fill` makes every byte the same. Assumes nothing.
 use mathlib.Core.Path.{_≡_, refl, _∙_}
 use mathlib.Core.List.{_++_, append-nil}
 use Prim.Native.Nat.{_≤_, _-_}
@@ -7,15 +7,14 @@ use lib.ListN.{length, replicate, drop, length-set}
 use lib.Seq.{drop-length}
 use borrow.Author.Fill.{fill-more}
 use borrow.Author.Needs.{needs}
-use Rattle.rules.specs.Bytes.{erased-byte}
-use Rattle.jobs.proofs.device.fill.Statement.{statement}
-use Rattle.jobs.proofs.device.fill.Tie as tie
+use Rattle.fields.proofs.stores.fill.Statement.{statement}
+use Rattle.fields.proofs.stores.fill.Tie as tie
 
 abbrev Inv-loop : tie.InvT-loop
-Inv-loop s₀ i₀ s i = (i ≤ length s₀) × ((length s ≡ length s₀) × (s ≡ replicate i erased-byte ++ drop i s₀))
+Inv-loop out₀ byte i₀ out i = (i ≤ length out₀) × ((length out ≡ length out₀) × (out ≡ replicate i byte ++ drop i out₀))
 
 abbrev μ-loop : tie.MeasureT-loop
-μ-loop s₀ i₀ s i = length s₀ - i
+μ-loop out₀ byte i₀ out i = length out₀ - i
 
 loop-again : tie.Need-loop-again Inv-loop μ-loop
 loop-again c =
@@ -24,7 +23,7 @@ loop-again c =
       (
         simp length-set (search needs),
         rw (
-          ← fill-more (at .loop .i) erased-byte (at .before .args .s .now)
+          ← fill-more (at .loop .i) (at .before .args .byte) (at .before .args .out .now)
               (omega arith),
           ← at .loop .inv .1 .1,
         ) refl,
@@ -34,8 +33,8 @@ loop-again c =
 returns : tie.Need-returns Inv-loop μ-loop
 returns c =
     let at = c .before in
-    let e : at .loop .i ≡ length (at .before .args .s .now) = omega arith in
-    at .loop .inv .1 .1 ∙ rw (e, drop-length (at .before .args .s .now), append-nil) refl
+    let e : at .loop .i ≡ length (at .before .args .out .now) = omega arith in
+    at .loop .inv .1 .1 ∙ rw (e, drop-length (at .before .args .out .now), append-nil) refl
 
 pub fill-spec : {M : Type 1} → statement M
 fill-spec =
