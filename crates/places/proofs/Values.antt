@@ -49,6 +49,9 @@ length-places p = length-values (place-count p) (drop (place-offset p) p)
 
 -- ---- in a block that stands
 
+pub few-places : {p : List ℕ} → StandingPointers p → place-count p ≤ 508
+few-places {p} h = places-fit p (h .stands) .at-most-508
+
 pub place-inside : (p : List ℕ) (k : ℕ) → StandingPointers p → k < place-count p
     → place-offset p + 8 * k + 8 ≤ block-size
 place-inside p k h within = omega (arith, places-fit p (h .stands) .in-block)

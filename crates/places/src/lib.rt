@@ -6,16 +6,19 @@ use rules::PlaceNo;
 use rules::SlotNo;
 use slots::Rows;
 ghost use mathlib.Core.Path.{_≡_};
-ghost use mathlib.Core.Bool.{false};
+ghost use mathlib.Core.Bool.{true, false, not};
 ghost use Prim.Native.Nat.{_+_, _-_, _/_, _≤_, _<_};
-ghost use lib.ListN.{length};
+ghost use lib.Dec.{eqb};
+ghost use lib.ListN.{length, drop};
+ghost use Rattle.rules.specs.Lists.{all};
 ghost use Rattle.rules.specs.Bytes.{block, block-size};
 ghost use Rattle.rules.specs.Table.{starts};
-ghost use Rattle.rules.specs.Pointers.{place-offset, place-count, offset-right, fits-room, pointers-stand, all-ones, judged};
+ghost use Rattle.rules.specs.Pointers.{place-offset, place-count, offset-right, fits-room, pointers-stand, places, all-ones, judged};
 ghost use Rattle.slots.specs.Inner.RowsOf.{HasRows};
+ghost use Rattle.slots.specs.Inner.Four.{one-of-four};
 ghost use Rattle.places.specs.Inner.StandingPointers.{StandingPointers};
 ghost use Rattle.places.specs.Inner.PlacesOf.{free-from, places-of, HasPlaces};
-ghost use Rattle.places.specs.Inner.Added.{held-above, added-at, place-value};
+ghost use Rattle.places.specs.Inner.Added.{held-from, held-above, added-at, place-value};
 
 // The three named fields of a block that stands and are fixed: the magic, the header's size and the block's size.
 const MAGIC: u64 = 0x57789609;
@@ -128,7 +131,7 @@ fn free_place(p: &[u8]) -> PlaceNo
     ensures { λ r. ⌜ r .0 ≡ free-from (now (p .entry)) ⌝ }
 {
     let offset = place_offset(p);
-    let mut k = place_count(p);
+    let mut k = erased_from(p, offset).0;
     while 0 < k {
         if value_at(p, offset, PlaceNo(k - 1)) != ALL_ONES {
             return PlaceNo(k);
@@ -136,6 +139,34 @@ fn free_place(p: &[u8]) -> PlaceNo
         k -= 1;
     }
     PlaceNo(0)
+}
+
+// A place such that it and all above are erased, found eight places at a time: as a rule most places are erased.
+fn erased_from(p: &[u8], offset: usize) -> PlaceNo
+    requires { ⌜ StandingPointers (now p) × (offset ≡ place-offset (now p)) ⌝ }
+    ensures { λ r. ⌜ (r .0 ≤ place-count (now (p .entry)))
+        × (all all-ones (drop (r .0) (places (now (p .entry)))) ≡ true) ⌝ }
+{
+    let mut from = place_count(p);
+    while 8 <= from {
+        if used_in_four(p, offset, PlaceNo(from - 8)) | used_in_four(p, offset, PlaceNo(from - 4)) {
+            return PlaceNo(from);
+        }
+        from -= 8;
+    }
+    PlaceNo(from)
+}
+
+// One of four places is not erased. The tests are joined by `|`, so that one branch serves all four.
+fn used_in_four(p: &[u8], offset: usize, place: PlaceNo) -> bool
+    requires { ⌜ StandingPointers (now p)
+        × ((offset ≡ place-offset (now p)) × (place .0 + 4 ≤ place-count (now p))) ⌝ }
+    ensures { λ r. ⌜ r ≡ one-of-four (λ k. not (all-ones (place-value (now (p .entry)) k))) (place .0) ⌝ }
+{
+    (value_at(p, offset, place) != ALL_ONES)
+        | (value_at(p, offset, PlaceNo(place.0 + 1)) != ALL_ONES)
+        | (value_at(p, offset, PlaceNo(place.0 + 2)) != ALL_ONES)
+        | (value_at(p, offset, PlaceNo(place.0 + 3)) != ALL_ONES)
 }
 
 // The value of a place, by where the places begin.
@@ -183,7 +214,7 @@ pub fn held_above(p: &[u8], places: Places, place: PlaceNo, v: u64) -> bool
     ensures { λ r. ⌜ r ≡ held-above (now (p .entry)) (place .0) v ⌝ }
 {
     let end = places.free.0;
-    let mut k = place.0 + 1;
+    let mut k = not_held_to(p, places, place, v).0;
     while k < end {
         if v == place_value(p, places, PlaceNo(k)) {
             return true;
@@ -191,6 +222,33 @@ pub fn held_above(p: &[u8], places: Places, place: PlaceNo, v: u64) -> bool
         k += 1;
     }
     false
+}
+
+// The place from which on to look for the value, found four places at a time: none between this one and that has it.
+fn not_held_to(p: &[u8], places: Places, place: PlaceNo, v: u64) -> PlaceNo
+    requires { ⌜ HasPlaces (now p) places × (place .0 < places .count) ⌝ }
+    ensures { λ r. ⌜ held-above (now (p .entry)) (place .0) v ≡ held-from (now (p .entry)) (r .0) v ⌝ }
+{
+    let end = places.free.0;
+    let mut to = place.0 + 1;
+    while to + 4 <= end {
+        if held_in_four(p, places, PlaceNo(to), v) {
+            return PlaceNo(to);
+        }
+        to += 4;
+    }
+    PlaceNo(to)
+}
+
+// One of four places has the value.
+fn held_in_four(p: &[u8], places: Places, place: PlaceNo, v: u64) -> bool
+    requires { ⌜ HasPlaces (now p) places × (place .0 + 4 ≤ places .count) ⌝ }
+    ensures { λ r. ⌜ r ≡ one-of-four (λ k. eqb v (place-value (now (p .entry)) k)) (place .0) ⌝ }
+{
+    (v == place_value(p, places, place))
+        | (v == place_value(p, places, PlaceNo(place.0 + 1)))
+        | (v == place_value(p, places, PlaceNo(place.0 + 2)))
+        | (v == place_value(p, places, PlaceNo(place.0 + 3)))
 }
 
 // What a place adds to the boot order: its slot, if it is live and no higher place has the same value.

@@ -1,6 +1,7 @@
 // The boot order by a table and a pointer block, without a store of the slots met: a walk from the free place down,
 // above which nothing is added, until all slots are met. A live place is compared with those above it up to the first
-// of its value; of one slot these stretches do not overlap, so that all of them together are at most places times slots.
+// of its value and at most three further; of one slot these stretches overlap by no more, so that all of them together
+// are about places times slots at most.
 use super::Added;
 use super::Places;
 use rules::PlaceNo;

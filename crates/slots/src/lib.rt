@@ -3,8 +3,9 @@ use rules::EntryNo;
 use rules::SlotNo;
 ghost use mathlib.Core.Path.{_≡_};
 ghost use mathlib.Core.Bool.{cond};
-ghost use Prim.Native.Nat.{_≤_, _<_};
-ghost use lib.ListN.{length, getD};
+ghost use Prim.Native.Nat.{_+_, _≤_, _<_};
+ghost use lib.Dec.{eqb};
+ghost use lib.ListN.{length, getD, drop};
 ghost use Rattle.rules.specs.Lists.{member};
 ghost use Rattle.rules.specs.Bytes.{block-size, up-to-zero};
 ghost use Rattle.rules.specs.Table.{entry-count, rows, entries, is-fixed-name, is-slot, slots};
@@ -13,6 +14,7 @@ ghost use Rattle.walks.specs.Find.{find};
 ghost use Rattle.walks.specs.Last.{last-from};
 ghost use Rattle.walks.specs.Entries.{entry-at, most-entries, HasEntries, slot-from};
 ghost use Rattle.slots.specs.Inner.Initials.{initials};
+ghost use Rattle.slots.specs.Inner.Four.{one-of-four};
 ghost use Rattle.slots.specs.Inner.RowsOf.{slots-before, rows-of, HasRows};
 
 // The rows of a table: how many entries count; the entry from which on all of them are slots; how many slots come before
@@ -84,7 +86,7 @@ pub fn find_slot(table: &[u8], n: usize, start: u64) -> EntryNo
     ensures found { λ r. ⌜ r .0 ≡ find (slot-from start) (rows n (now (table .entry))) ⌝ }
     ensures within { λ r. ⌜ r .0 ≤ n ⌝ }
 {
-    let mut i = 0;
+    let mut i = none_before(table, n, start).0;
     while i < n {
         if is_slot_from(table, EntryNo(i), start) {
             return EntryNo(i);
@@ -92,6 +94,34 @@ pub fn find_slot(table: &[u8], n: usize, start: u64) -> EntryNo
         i += 1;
     }
     EntryNo(n)
+}
+
+// The entry from which on to look for the slot, found four entries at a time: none before it starts there.
+fn none_before(table: &[u8], n: usize, start: u64) -> EntryNo
+    requires { ⌜ HasEntries (now table) n ⌝ }
+    ensures found { λ r. ⌜ find (slot-from start) (rows n (now (table .entry)))
+        ≡ r .0 + find (slot-from start) (drop (r .0) (rows n (now (table .entry)))) ⌝ }
+    ensures within { λ r. ⌜ r .0 ≤ n ⌝ }
+{
+    let mut i = 0;
+    while i + 4 <= n {
+        if starts_in_four(table, EntryNo(i), start) {
+            return EntryNo(i);
+        }
+        i += 4;
+    }
+    EntryNo(i)
+}
+
+// One of four entries starts there. The tests are joined by `|`, so that one branch serves all four.
+fn starts_in_four(table: &[u8], e: EntryNo, start: u64) -> bool
+    requires { ⌜ (length (now table) ≡ block-size) × (e .0 + 4 ≤ most-entries) ⌝ }
+    ensures { λ r. ⌜ r ≡ one-of-four (λ i. eqb (entry-at (now (table .entry)) i .start) start) (e .0) ⌝ }
+{
+    (entries::entry_start(table, e) == start)
+        | (entries::entry_start(table, EntryNo(e.0 + 1)) == start)
+        | (entries::entry_start(table, EntryNo(e.0 + 2)) == start)
+        | (entries::entry_start(table, EntryNo(e.0 + 3)) == start)
 }
 
 // The entry number of a slot; n where there is no such slot.

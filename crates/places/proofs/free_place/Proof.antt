@@ -8,10 +8,9 @@ use lib.ListN.{drop}
 use borrow.Author.Tests.{eq-eqb, ne-eqb}
 use Rattle.rules.specs.Lists.{all}
 use Rattle.rules.specs.Pointers.{place-count, places, all-ones}
-use Rattle.walks.proofs.Loops.{all-over}
 use Rattle.walks.proofs.Last.{last-none, last-goes, last-found}
 use Rattle.places.specs.Inner.PlacesOf.{free-from}
-use Rattle.places.proofs.Values.{place-down, place-over}
+use Rattle.places.proofs.Values.{place-down}
 use borrow.Author.Needs.{needs}
 use Rattle.places.proofs.free_place.Statement.{statement}
 use Rattle.places.proofs.free_place.Tie as tie
@@ -21,11 +20,6 @@ Inv-loop p offset k₀ k = (k ≤ place-count p) × (all all-ones (drop k (place
 
 abbrev μ-loop : tie.MeasureT-loop
 μ-loop p offset k₀ k = k
-
-loop-holds : tie.Need-loop-holds Inv-loop μ-loop
-loop-holds c =
-    let p = c .before .before .before .args .p .now in
-    rw (c .place-count .ensures) (omega arith, all-over all-ones (place-over p (place-count p) (omega arith)))
 
 returns : tie.Need-returns Inv-loop μ-loop
 unfolding all-ones free-from
@@ -63,7 +57,7 @@ free-place-spec =
     μ-loop
     (λ c κs. search needs)
     (λ c κs. search needs)
-    loop-holds
+    (λ c. search needs)
     (λ c. search needs)
     (λ c κs. search needs)
     returns

@@ -1,12 +1,11 @@
 -- `places::held_above` walks the places above one up to the free place. The invariant: what is left to walk decides.
 -- Assumes nothing.
-use mathlib.Core.Path.{_≡_, refl, sym, _∙_}
+use mathlib.Core.Path.{_≡_, sym, _∙_}
 use Prim.Native.Nat.{_-_}
 use native.Mathlib.Omega.{arith}
 use lib.ListN.{drop}
 use Rattle.rules.specs.Lists.{member}
 use Rattle.rules.specs.Pointers.{places}
-use Rattle.rules.proofs.Pointers.PointerHeader.{places-fit}
 use Rattle.walks.proofs.Loops.{member-here, member-goes}
 use Rattle.places.proofs.Values.{place-turn}
 use Rattle.places.proofs.Free.{count-is, free-places, not-held}
@@ -19,15 +18,6 @@ Inv-loop p places' v end k₀ k = member v (drop k₀ (places p)) ≡ member v (
 
 abbrev μ-loop : tie.MeasureT-loop
 μ-loop p places' v end k₀ k = end - k
-
-add-k : tie.Need-add-k Inv-loop μ-loop
-add-k c =
-    let start = c .before .before in
-    let h = start .pre .0 .0 in
-    omega (arith, places-fit (start .args .p .now) (h .block .stands) .at-most-508, count-is (start .args .p .now) (start .args .places) h)
-
-loop-holds : tie.Need-loop-holds Inv-loop μ-loop
-loop-holds c = refl
 
 place-value-requires : tie.Need-place-value-requires Inv-loop μ-loop
 place-value-requires c κs =
@@ -44,7 +34,8 @@ returns c =
     let a = start .args in
     let free = free-places (a .p .now) (a .places) (start .pre .0 .0) in
     sym
-    (at .loop .inv
+    (at .before .not-held-to .ensures
+    ∙ at .loop .inv
     ∙ member-here (a .v) (place-turn (a .p .now) (at .loop .k) (omega (arith, free .within)))
     (c .if1 .taken ∙ value .place-value .ensures))
 
@@ -65,7 +56,8 @@ returns-2 c =
     let start = at .before .before .before in
     let a = start .args in
     sym
-    (at .loop .inv
+    (at .before .not-held-to .ensures
+    ∙ at .loop .inv
     ∙ not-held (a .p .now) (a .places .free .0) (at .loop .k) (a .v)
     (free-places (a .p .now) (a .places) (start .pre .0 .0))
     (omega arith)
@@ -77,8 +69,8 @@ held-above-spec =
     (tie.spec
     Inv-loop
     μ-loop
-    add-k
-    loop-holds
+    (λ c κs. search needs)
+    (λ c. search needs)
     place-value-requires
     returns
     (λ c. search needs)

@@ -24,6 +24,10 @@ added (Stray v) held = Nothing
 unfoldable pub place-value : List ℕ → ℕ → ℕ
 place-value p k = field (place-offset p + 8 * k) 8 p
 
+-- a place from place k on has the value
+abbrev pub held-from : List ℕ → ℕ → ℕ → Bool
+held-from p k v = member v (drop k (places p))
+
 -- a place above place k has the value
 abbrev pub held-above : List ℕ → ℕ → ℕ → Bool
 held-above p k v = member v (drop (k + 1) (places p))

@@ -21,13 +21,10 @@ Inv-loop table n start i₀ i =
 abbrev μ-loop : tie.MeasureT-loop
 μ-loop table n start i₀ i = n - i
 
-loop-holds : tie.Need-loop-holds Inv-loop μ-loop
-loop-holds c = (omega arith, omega arith)
-
 returns : tie.Need-returns Inv-loop μ-loop
 returns c =
     let at = c .before .before .before in
-    let a = at .before .before .args in
+    let a = at .before .before .before .args in
     let turn = entries-turn (a .n) (at .loop .i) (a .table .now) (omega arith) in
     let is = sym (c .before .is-slot-from .ensures) ∙ c .if1 .taken in
     (omega (arith, find-here (slot-from (a .start)) turn is), omega arith)
@@ -35,7 +32,7 @@ returns c =
 loop-again : tie.Need-loop-again Inv-loop μ-loop
 loop-again c =
     let at = c .before .before .before in
-    let a = at .before .before .args in
+    let a = at .before .before .before .args in
     let turn = entries-turn (a .n) (at .loop .i) (a .table .now) (omega arith) in
     let is-not = sym (c .before .is-slot-from .ensures) ∙ c .if1 .left in
     (omega arith, omega (arith, find-goes (slot-from (a .start)) turn is-not))
@@ -43,7 +40,7 @@ loop-again c =
 returns-2 : tie.Need-returns-2 Inv-loop μ-loop
 returns-2 c =
     let at = c .before in
-    let a = at .before .before .args in
+    let a = at .before .before .before .args in
     let end = entries-end (a .n) (at .loop .i) (a .table .now) (omega arith) in
     (omega (arith, find-over (slot-from (a .start)) end), omega arith)
 
@@ -53,7 +50,8 @@ find-slot-spec =
     (tie.spec
     Inv-loop
     μ-loop
-    loop-holds
+    (λ c κs. search needs)
+    (λ c. search needs)
     (λ c κs. search needs)
     returns
     (λ c. search needs)
