@@ -9,11 +9,11 @@ use lib.Dec.{eqb}
 use lib.ListN.{length, take, drop, replicate, length-take, length-drop}
 use lib.Seq.{take-all}
 use borrow.Author.Tests.{eq-eqb, ne-eqb, eqb-true, eqb-false}
-use Rattle.rules.specs.Lists.{same, all, pairwise}
+use Rattle.rules.specs.Lists.{same, all, first-clash}
 use Rattle.rules.specs.Bytes.{Bytes, little-endian, field, up-to-zero}
 use Rattle.rules.specs.Table.{Entry, entry, name, names-differ}
 use Rattle.rules.specs.Commands.{padded-name}
-use Rattle.rules.proofs.Lists.Tests.{by-cases, clash, and-true, same-true, same-of}
+use Rattle.rules.proofs.Lists.Tests.{by-cases, clash, and-true, both-true, same-true, same-of}
 use Rattle.rules.proofs.Lists.ByteLists.{bytes-take, bytes-drop}
 use Rattle.walks.specs.Entries.{entry-at}
 use Rattle.walks.proofs.Joined.{and-assoc}
@@ -61,7 +61,7 @@ differ-by-fields d e p q =
     absurd (clash (same x y) (same-of x y (hx ∙ ap padded-name z ∙ sym hy)) t))
     (λ u. u ∙ sym t)))
 
--- two tests that agree on what passes a third agree on each two of such a list
+-- two tests that agree on what passes a third agree on each two of such a list, and so on the first that clashes
 module _ {A : Type 0} (p : A → Bool) where
   all-agree : (f g : A → Bool)
       → ((x : A) → p x ≡ true → f x ≡ g x)
@@ -74,21 +74,26 @@ module _ {A : Type 0} (p : A → Bool) where
       let (u, v) = and-true (p x) (all p xs) t in
       rw (h x u, all-agree f g h xs v)
 
-  pairwise-agree : (f g : A → A → Bool)
+  clash-agree : (f g : A → A → Bool)
       → ((x y : A) → p x ≡ true → p y ≡ true → f x y ≡ g x y)
-      → (xs : List A)
+      → (earlier xs : List A)
+      → all p earlier ≡ true
       → all p xs ≡ true
-      → pairwise f xs ≡ pairwise g xs
-  unfolding all pairwise
-  pairwise-agree f g h [] t = refl
-  pairwise-agree f g h (x ∷ xs) t =
+      → first-clash f earlier xs ≡ first-clash g earlier xs
+  unfolding all first-clash
+  clash-agree f g h earlier [] s t = refl
+  clash-agree f g h earlier (x ∷ xs) s t =
       let (u, v) = and-true (p x) (all p xs) t in
-      rw (all-agree (f x) (g x) (λ y w. h x y u w) xs v, pairwise-agree f g h xs v)
+      rw (
+        all-agree (λ y. f y x) (λ y. g y x) (λ y w. h y x w u) earlier s,
+        clash-agree f g h (x ∷ earlier) xs (both-true (p x) (all p earlier) u s) v,
+      )
 
-pub all-differ-by-fields : (es : List Entry)
+pub same-by-fields : (es : List Entry)
     → all padded es ≡ true
-    → pairwise names-differ es ≡ pairwise fields-differ es
-all-differ-by-fields es = pairwise-agree padded names-differ fields-differ differ-by-fields es
+    → first-clash names-differ [] es ≡ first-clash fields-differ [] es
+unfolding all
+same-by-fields es = clash-agree padded names-differ fields-differ differ-by-fields [] es refl
 
 -- ---- two fields by their words
 

@@ -1,20 +1,21 @@
-// A rule that each entry keeps, or each two: over the first n entries of a table.
+// What a rule asks of each entry, or of each two: the first of a table's n entries that does not keep it.
 use super::PairRule;
 use super::Rule;
 use super::naming;
 use super::ranges;
+use super::six;
 use rules::EntryNo;
 ghost use mathlib.Core.Path.{_≡_};
-ghost use Prim.Native.Nat.{_+_, _<_};
+ghost use Prim.Native.Nat.{_+_, _≤_, _<_};
 ghost use lib.ListN.{length, drop};
-ghost use Rattle.rules.specs.Lists.{all, pairwise};
+ghost use Rattle.rules.specs.Lists.{all, first-failing, first-clash};
 ghost use Rattle.rules.specs.Bytes.{block-size};
 ghost use Rattle.rules.specs.Table.{rows};
 ghost use Rattle.walks.specs.Entries.{entry-at, most-entries, HasEntries};
-ghost use Rattle.table.specs.Inner.Rules.{keeps, both-keep};
+ghost use Rattle.table.specs.Inner.Rules.{keeps, divisor, both-keep, entries-before};
 
 fn entry_keeps(rule: Rule, table: &[u8], e: EntryNo) -> bool
-    requires { ⌜ (length (now table) ≡ block-size) × (e .0 < most-entries) ⌝ }
+    requires { ⌜ ((length (now table) ≡ block-size) × (e .0 < most-entries)) × (0 < divisor rule) ⌝ }
     ensures { λ r. ⌜ r ≡ keeps rule (entry-at (now (table .entry)) (e .0)) ⌝ }
 {
     match rule {
@@ -22,10 +23,13 @@ fn entry_keeps(rule: Rule, table: &[u8], e: EntryNo) -> bool
         Rule::NamePadded => naming::name_is_padded(table, e),
         Rule::RangeAligned => ranges::range_is_aligned(table, e),
         Rule::RangeInside(len) => ranges::range_is_inside(table, e, len),
+        Rule::BootInfoRight => six::starts_if_named(table, e, b"BOOT_INFO", 0),
+        Rule::TableAsTold(spt0, spt1) => six::table_is_as_told(table, e, spt0, spt1),
+        Rule::BlockOnGranules(granule) => six::block_is_on_granules(table, e, granule),
     }
 }
 
-pub fn pair_keeps(rule: PairRule, table: &[u8], d: EntryNo, e: EntryNo) -> bool
+fn pair_keeps(rule: PairRule, table: &[u8], d: EntryNo, e: EntryNo) -> bool
     requires { ⌜ (length (now table) ≡ block-size) × ((d .0 < most-entries) × (e .0 < most-entries)) ⌝ }
     ensures { λ r. ⌜ r
         ≡ both-keep rule (entry-at (now (table .entry)) (d .0)) (entry-at (now (table .entry)) (e .0)) ⌝ }
@@ -37,49 +41,50 @@ pub fn pair_keeps(rule: PairRule, table: &[u8], d: EntryNo, e: EntryNo) -> bool
     }
 }
 
-// Each of the first n entries keeps the rule.
-pub fn all_keep(rule: Rule, table: &[u8], n: usize) -> bool
-    requires { ⌜ HasEntries (now table) n ⌝ }
-    ensures { λ r. ⌜ r ≡ all (keeps rule) (rows n (now (table .entry))) ⌝ }
+// The number of the first of n entries that does not keep the rule; n where all keep it.
+pub fn first_failing(rule: Rule, table: &[u8], n: usize) -> usize
+    requires { ⌜ HasEntries (now table) n × (0 < divisor rule) ⌝ }
+    ensures { λ r. ⌜ r ≡ first-failing (keeps rule) (rows n (now (table .entry))) ⌝ }
 {
     let mut i = 0;
     while i < n {
         if !entry_keeps(rule, table, EntryNo(i)) {
-            return false;
+            return i;
         }
         i += 1;
     }
-    true
+    n
 }
 
-// Each two of the first n entries keep the rule.
-pub fn pairs_keep(rule: PairRule, table: &[u8], n: usize) -> bool
-    requires { ⌜ HasEntries (now table) n ⌝ }
-    ensures { λ r. ⌜ r ≡ pairwise (both-keep rule) (rows n (now (table .entry))) ⌝ }
-{
-    let mut i = 0;
-    while i < n {
-        if !later_keep(rule, table, n, EntryNo(i)) {
-            return false;
-        }
-        i += 1;
-    }
-    true
-}
-
-// An entry keeps the rule with each later one of the first n.
-fn later_keep(rule: PairRule, table: &[u8], n: usize, d: EntryNo) -> bool
-    requires { ⌜ HasEntries (now table) n × (d .0 < n) ⌝ }
+// The number of the first entry, from one on, that does not keep the rule with an earlier one; n where all keep it.
+pub fn first_clash(rule: PairRule, table: &[u8], n: usize, from: usize) -> usize
+    requires { ⌜ HasEntries (now table) n × (from ≤ n) ⌝ }
     ensures { λ r. ⌜ r
-        ≡ all (both-keep rule (entry-at (now (table .entry)) (d .0)))
-        (drop (d .0 + 1) (rows n (now (table .entry)))) ⌝ }
+        ≡ from
+        + first-clash (both-keep rule) (entries-before (now (table .entry)) from) (drop from (rows n (now (table .entry)))) ⌝ }
 {
-    let mut i = d.0 + 1;
+    let mut i = from;
     while i < n {
-        if !pair_keeps(rule, table, d, EntryNo(i)) {
-            return false;
+        if !earlier_keep(rule, table, EntryNo(i)) {
+            return i;
         }
         i += 1;
+    }
+    n
+}
+
+// An entry keeps the rule with each earlier one, the nearest first.
+fn earlier_keep(rule: PairRule, table: &[u8], e: EntryNo) -> bool
+    requires { ⌜ (length (now table) ≡ block-size) × (e .0 < most-entries) ⌝ }
+    ensures { λ r. ⌜ r
+        ≡ all (λ d. both-keep rule d (entry-at (now (table .entry)) (e .0))) (entries-before (now (table .entry)) (e .0)) ⌝ }
+{
+    let mut k = e.0;
+    while 0 < k {
+        k -= 1;
+        if !pair_keeps(rule, table, EntryNo(k), e) {
+            return false;
+        }
     }
     true
 }

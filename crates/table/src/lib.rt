@@ -22,13 +22,17 @@ const MAGIC: u64 = 0x57713427;
 
 const VERSION: u64 = 0;
 
-// A rule that each counted entry keeps by itself: 3, 5 and 6 of the eleven, the last with the image length, and that
-// the name is padded with zeros, by which rule 4 is judged faster.
+// What a rule asks of one entry: 3, 5 and 6 of the eleven, the last with the image length; of an entry with one of the
+// six names 9, 10 with the two addresses told and 11 with the granule; and that the name is padded with zeros, by which
+// rule 4 is judged faster.
 pub enum Rule {
     NameRight,
     NamePadded,
     RangeAligned,
     RangeInside(u64),
+    BootInfoRight,
+    TableAsTold(u64, u64),
+    BlockOnGranules(u64),
 }
 
 // A rule that each two counted entries keep: 4 and 7 of the eleven, and 4 of padded names.
@@ -36,16 +40,6 @@ pub enum PairRule {
     NamesDiffer,
     FieldsDiffer,
     RangesApart,
-}
-
-// What a rule asks of one entry: 3, 5 and 6 of the eleven, and of an entry with one of the six names 9, 10 and 11.
-pub enum EntryRule {
-    Named,
-    Aligned,
-    Inside,
-    BootInfo,
-    Told,
-    OnGranules,
 }
 
 // The entry numbers of BOOT_INFO, FACTORY_IMAGE, SPT0, SPT1, CPB0 and CPB1.
@@ -80,16 +74,10 @@ pub fn table_fault(image: &[u8], at: usize, setting: Setting) -> Fault
 {
     let table = fields::block_at(image, at);
     if !header_is_right(table) {
-        return Fault {
-            rule: 1,
-            entry: EntryNo(faults::NO_ENTRY),
-        };
+        return faults::broken_at(1, faults::NO_ENTRY);
     }
     if !count_is_right(table) {
-        return Fault {
-            rule: 2,
-            entry: EntryNo(faults::NO_ENTRY),
-        };
+        return faults::broken_at(2, faults::NO_ENTRY);
     }
     let n = entries::entry_count(table);
     let len = image.len() as u64;
@@ -111,11 +99,11 @@ fn entries_stand(table: &[u8], n: usize, len: u64, setting: Setting) -> bool
     requires { ⌜ HasEntries (now table) n × (0 < setting .granule) ⌝ }
     ensures { λ r. ⌜ r ≡ entries-stand setting len (rows n (now (table .entry))) ⌝ }
 {
-    each::all_keep(Rule::NameRight, table, n)
-        & naming::all_differ(table, n)
-        & each::all_keep(Rule::RangeAligned, table, n)
-        & each::all_keep(Rule::RangeInside(len), table, n)
-        & ranges::all_are_apart(table, n)
+    (each::first_failing(Rule::NameRight, table, n) == n)
+        & (naming::first_same(table, n) == n)
+        & (each::first_failing(Rule::RangeAligned, table, n) == n)
+        & (each::first_failing(Rule::RangeInside(len), table, n) == n)
+        & (ranges::first_overlap(table, n) == n)
         & six::six_keep(table, n, setting)
 }
 

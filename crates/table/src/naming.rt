@@ -4,9 +4,10 @@ use super::Rule;
 use super::each;
 use rules::EntryNo;
 ghost use mathlib.Core.Path.{_≡_};
+ghost use mathlib.Core.List.{[]};
 ghost use Prim.Native.Nat.{_<_};
 ghost use lib.ListN.{length, drop};
-ghost use Rattle.rules.specs.Lists.{all, pairwise};
+ghost use Rattle.rules.specs.Lists.{all, first-clash};
 ghost use Rattle.rules.specs.Bytes.{block-size};
 ghost use Rattle.rules.specs.Table.{rows, name-right, names-differ};
 ghost use Rattle.walks.specs.Entries.{entry-at, most-entries, HasEntries};
@@ -29,16 +30,16 @@ pub fn names_differ(table: &[u8], d: EntryNo, e: EntryNo) -> bool
     !names::same_name(entries::entry_name(table, d), entries::entry_name(table, e))
 }
 
-// Each two of the first n names differ. Where each is followed by zeros alone, as they mostly are, its field is
-// compared as it stands, eight bytes at a time.
-pub fn all_differ(table: &[u8], n: usize) -> bool
+// The number of the first of n entries that has the name of an earlier one; n where all names differ. Where each is
+// followed by zeros alone, as they mostly are, its field is compared as it stands, eight bytes at a time.
+pub fn first_same(table: &[u8], n: usize) -> usize
     requires { ⌜ HasEntries (now table) n ⌝ }
-    ensures { λ r. ⌜ r ≡ pairwise names-differ (rows n (now (table .entry))) ⌝ }
+    ensures { λ r. ⌜ r ≡ first-clash names-differ [] (rows n (now (table .entry))) ⌝ }
 {
-    if each::all_keep(Rule::NamePadded, table, n) {
-        return each::pairs_keep(PairRule::FieldsDiffer, table, n);
+    if each::first_failing(Rule::NamePadded, table, n) == n {
+        return each::first_clash(PairRule::FieldsDiffer, table, n, 0);
     }
-    each::pairs_keep(PairRule::NamesDiffer, table, n)
+    each::first_clash(PairRule::NamesDiffer, table, n, 0)
 }
 
 // The name is followed by zeros alone.

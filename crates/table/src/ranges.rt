@@ -4,13 +4,15 @@ use super::each;
 use super::ends_by;
 use rules::EntryNo;
 ghost use mathlib.Core.Path.{_≡_};
-ghost use Prim.Native.Nat.{_<_};
+ghost use mathlib.Core.Bool.{true};
+ghost use mathlib.Core.List.{[]};
+ghost use Prim.Native.Nat.{_≤_, _<_};
 ghost use lib.ListN.{length};
-ghost use Rattle.rules.specs.Lists.{pairwise};
+ghost use Rattle.rules.specs.Lists.{first-clash};
 ghost use Rattle.rules.specs.Bytes.{block-size};
 ghost use Rattle.rules.specs.Table.{rows, range-aligned, range-inside, ranges-apart};
 ghost use Rattle.walks.specs.Entries.{entry-at, most-entries, HasEntries};
-ghost use Rattle.table.specs.Inner.Ascending.{neighbours, ends-before};
+ghost use Rattle.table.specs.Inner.Ascending.{ends-before, ascend};
 
 // The unit of every start and length.
 const UNIT: u64 = fields::BLOCK_SIZE as u64;
@@ -57,29 +59,27 @@ pub fn ranges_are_apart(table: &[u8], d: EntryNo, e: EntryNo) -> bool
     ends_before(table, d, e) | ends_before(table, e, d)
 }
 
-// Each of the first n ranges ends before the next.
-fn ranges_ascend(table: &[u8], n: usize) -> bool
+// As many of the first n ranges as ascend: each ends before the next begins.
+fn ascending(table: &[u8], n: usize) -> usize
     requires { ⌜ HasEntries (now table) n ⌝ }
-    ensures { λ r. ⌜ r ≡ neighbours ends-before (rows n (now (table .entry))) ⌝ }
+    ensures { λ r. ⌜ (r ≤ n) × (ascend (now (table .entry)) r ≡ true) ⌝ }
 {
     let mut i = 0;
     while i + 1 < n {
         if !ends_before(table, EntryNo(i), EntryNo(i + 1)) {
-            return false;
+            return i + 1;
         }
         i += 1;
     }
-    true
+    n
 }
 
-// No two of the first n ranges overlap. In a table whose ranges ascend, as they mostly do, one walk tells; else each
-// two are compared.
-pub fn all_are_apart(table: &[u8], n: usize) -> bool
+// The number of the first of n entries whose range overlaps that of an earlier one; n where none does. As long as
+// they ascend, as they mostly do, none does; from there on each is compared with the earlier ones.
+pub fn first_overlap(table: &[u8], n: usize) -> usize
     requires { ⌜ HasEntries (now table) n ⌝ }
-    ensures { λ r. ⌜ r ≡ pairwise ranges-apart (rows n (now (table .entry))) ⌝ }
+    ensures { λ r. ⌜ r ≡ first-clash ranges-apart [] (rows n (now (table .entry))) ⌝ }
 {
-    if ranges_ascend(table, n) {
-        return true;
-    }
-    each::pairs_keep(PairRule::RangesApart, table, n)
+    let from = ascending(table, n);
+    each::first_clash(PairRule::RangesApart, table, n, from)
 }

@@ -4,7 +4,7 @@ use rules::EntryNo;
 use rules::Setting;
 ghost use mathlib.Core.Path.{_≡_};
 ghost use mathlib.Core.Bool.{_&&_};
-ghost use Prim.Native.Nat.{ℕ, _<_};
+ghost use Prim.Native.Nat.{_<_};
 ghost use lib.Dec.{eqb};
 ghost use lib.ListN.{length};
 ghost use Rattle.rules.specs.Bytes.{block-size, up-to-zero};
@@ -112,7 +112,7 @@ pub fn starts_if_named(table: &[u8], e: EntryNo, wanted: &[u8], at: u64) -> bool
 
 pub fn table_is_as_told(table: &[u8], e: EntryNo, spt0: u64, spt1: u64) -> bool
     requires { ⌜ (length (now table) ≡ block-size) × (e .0 < most-entries) ⌝ }
-    ensures { λ r. ⌜ ((g : ℕ) → r ≡ table-as-told (setting g spt0 spt1) (entry-at (now (table .entry)) (e .0))) ⌝ }
+    ensures { λ r. ⌜ r ≡ table-as-told (setting 0 spt0 spt1) (entry-at (now (table .entry)) (e .0)) ⌝ }
 {
     starts_if_named(table, e, b"SPT0", spt0) & starts_if_named(table, e, b"SPT1", spt1)
 }
@@ -120,8 +120,7 @@ pub fn table_is_as_told(table: &[u8], e: EntryNo, spt0: u64, spt1: u64) -> bool
 // What rule 11 asks of one entry.
 pub fn block_is_on_granules(table: &[u8], e: EntryNo, granule: u64) -> bool
     requires { ⌜ ((length (now table) ≡ block-size) × (e .0 < most-entries)) × (0 < granule) ⌝ }
-    ensures { λ r. ⌜ ((a b : ℕ) → r
-        ≡ block-on-granules (setting granule a b) (entry-at (now (table .entry)) (e .0))) ⌝ }
+    ensures { λ r. ⌜ r ≡ block-on-granules (setting granule 0 0) (entry-at (now (table .entry)) (e .0)) ⌝ }
 {
     let fits = is_on_granules(table, e, granule);
     (!entries::has_name(table, e, b"SPT0") | fits)

@@ -1,7 +1,8 @@
 -- `table::entries_stand` meets its contract: six tests are the definition's rules 3 to 11. Assumes nothing.
 use borrow.Author.Needs.{needs}
-use Rattle.rules.specs.Table.{rows}
+use Rattle.rules.specs.Table.{rows, name-right, names-differ, range-aligned, range-inside, ranges-apart}
 use Rattle.table.specs.Inner.Rules.{keeps}
+use Rattle.table.proofs.FirstBroken.{all-by-number, pairs-by-number}
 use Rattle.table.proofs.Standing.{rules-3-to-11}
 use Rattle.table.proofs.entries_stand.Statement.{statement}
 use Rattle.table.proofs.entries_stand.Tie as tie
@@ -9,17 +10,19 @@ use Rattle.table.proofs.entries_stand.Tie as tie
 returns : tie.Need-returns
 unfolding keeps
 returns c =
-    let c3 = c .before .before in
-    let a = c3 .before .before .before .before .before .args in
+    let c5 = c .before .before .before in
+    let c3 = c5 .before .before in
+    let a = c3 .before .before .args in
+    let t = a .table .now in
     rw (
-      c3 .before .before .before .all-keep .ensures,
-      c3 .before .before .all-differ .ensures,
-      c3 .before .all-keep2 .ensures,
-      c3 .all-keep3 .ensures,
-      c .before .all-are-apart .ensures,
+      all-by-number (a .n) t name-right (c3 .first-failing .ensures),
+      pairs-by-number (a .n) t names-differ (c5 .before .first-same .ensures),
+      all-by-number (a .n) t range-aligned (c5 .first-failing2 .ensures),
+      all-by-number (a .n) t (range-inside (a .len)) (c .before .before .first-failing3 .ensures),
+      pairs-by-number (a .n) t ranges-apart (c .before .first-overlap .ensures),
       c .six-keep .ensures,
     )
-    (rules-3-to-11 (a .setting) (a .len) (rows (a .n) (a .table .now)))
+    (rules-3-to-11 (a .setting) (a .len) (rows (a .n) t))
 
 pub entries-stand-spec : {M : Type 1} → statement M
 entries-stand-spec =

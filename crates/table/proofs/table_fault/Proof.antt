@@ -19,20 +19,20 @@ rule2 c = passed (c .before .count-is-right .ensures) (c .if2 .left)
 
 returns : tie.Need-returns
 returns c =
-    let b = c .before .before in
+    let b = c .before .before .before in
     let a = b .before .before .args in
-    rw (← b .block-at .ensures .0)
+    rw (c .broken-at .ensures, ← b .block-at .ensures .0)
     (sym (fault-1 (a .setting) (length (a .image .now)) (b .block-at .result .now)
-    (failed (c .before .header-is-right .ensures) (c .if1 .taken))))
+    (failed (c .before .before .header-is-right .ensures) (c .before .if1 .taken))))
 
 returns-2 : tie.Need-returns-2
 returns-2 c =
-    let c1 = c .before .before in
+    let c1 = c .before .before .before in
     let b = c1 .before .before in
     let a = b .before .before .args in
-    rw (← b .block-at .ensures .0)
+    rw (c .broken-at2 .ensures, ← b .block-at .ensures .0)
     (sym (fault-2 (a .setting) (length (a .image .now)) (b .block-at .result .now) (rule1 c1)
-    (failed (c .before .count-is-right .ensures) (c .if2 .taken))))
+    (failed (c .before .before .count-is-right .ensures) (c .before .if2 .taken))))
 
 entries-fault-requires : tie.Need-entries-fault-requires
 entries-fault-requires c κs =
@@ -61,7 +61,9 @@ table-fault-spec =
     (tie.spec
     (λ c κs. search needs)
     (λ c κs. search needs)
+    (λ c κs. search needs)
     returns
+    (λ c κs. search needs)
     (λ c κs. search needs)
     returns-2
     (λ c κs. search needs)

@@ -1,16 +1,17 @@
 -- Ranges that ascend: a test of each entry with the next, by which no two overlap. Assumes nothing.
 use mathlib.Core.Bool.{Bool, true, _&&_}
-use mathlib.Core.List.{List, [], _∷_}
-use Prim.Native.Nat.{_+_}
+use mathlib.Core.List.{List}
+use Prim.Native.Nat.{ℕ, zero, suc, _+_}
 use lib.Dec.{leb}
 use Rattle.rules.specs.Table.{Entry}
+use Rattle.walks.specs.Entries.{entry-at}
 
 -- the range of d ends where that of e begins, or before
 unfoldable pub ends-before : Entry → Entry → Bool
 ends-before d e = leb (d .start + d .size) (e .start)
 
--- every element passes with the next
-unfoldable pub neighbours : {A : Type 0} → (A → A → Bool) → List A → Bool
-neighbours f [] = true
-neighbours f (x ∷ []) = true
-neighbours f (x ∷ y ∷ xs) = f x y && neighbours f (y ∷ xs)
+-- each of the first k ranges of a table ends before the next
+unfoldable pub ascend : List ℕ → ℕ → Bool
+ascend t zero = true
+ascend t (suc zero) = true
+ascend t (suc (suc k)) = ends-before (entry-at t k) (entry-at t (suc k)) && ascend t (suc k)

@@ -5,84 +5,89 @@ use mathlib.Core.Bool.{true}
 use mathlib.Core.List.{List}
 use borrow.Author.Needs.{needs}
 use Rattle.rules.specs.Lists.{all, pairwise}
-use Rattle.rules.specs.Table.{Entry, rows, name-right, names-differ, range-aligned, range-inside}
-use Rattle.walks.proofs.Joined.{failed, passed}
-use Rattle.table.specs.Inner.Rules.{keeps, both-keep}
-use Rattle.table.specs.Inner.Faults.{passes}
+use Rattle.rules.specs.Table.{Entry, rows, name-right, names-differ, range-aligned, range-inside, ranges-apart}
+use Rattle.table.specs.Inner.Rules.{keeps}
+use Rattle.table.proofs.FirstBroken.{all-by-number, pairs-by-number, kept}
 use Rattle.table.proofs.FaultFound.{fault-3, fault-4, fault-5, fault-6, fault-7, fault-of-six}
 use Rattle.table.proofs.faults.entries_fault.Statement.{statement}
 use Rattle.table.proofs.faults.entries_fault.Tie as tie
 
--- the entries judged, and what each test that passed says
+-- the entries judged, and what each search that found none says
 abbrev judged : tie.Start → List Entry
 judged start = rows (start .args .n) (start .args .table .now)
 
 rule3 : (c : tie.Else1) → all name-right (judged (c .before .before .before)) ≡ true
 unfolding keeps
-rule3 c = passed (c .before .all-keep .ensures) (c .if1 .left)
+rule3 c =
+    let a = c .before .before .before .args in
+    kept (all-by-number (a .n) (a .table .now) name-right (c .before .first-failing .ensures)) (c .if1 .left)
 
 rule4 : (c : tie.Else2) → pairwise names-differ (judged (c .before .before .before .before .before)) ≡ true
-rule4 c = passed (c .before .all-differ .ensures) (c .if2 .left)
+rule4 c =
+    let a = c .before .before .before .before .before .args in
+    kept (pairs-by-number (a .n) (a .table .now) names-differ (c .before .first-same .ensures)) (c .if2 .left)
 
 rule5 : (c : tie.Else3) → all range-aligned (judged (c .before .before .before .before .before .before .before)) ≡ true
 unfolding keeps
-rule5 c = passed (c .before .all-keep2 .ensures) (c .if3 .left)
+rule5 c =
+    let a = c .before .before .before .before .before .before .before .args in
+    kept (all-by-number (a .n) (a .table .now) range-aligned (c .before .first-failing2 .ensures)) (c .if3 .left)
 
 rule6 : (c : tie.Else4)
     → let start = c .before .before .before .before .before .before .before .before .before in
     all (range-inside (start .args .len)) (judged start) ≡ true
 unfolding keeps
-rule6 c = passed (c .before .all-keep3 .ensures) (c .if4 .left)
+rule6 c =
+    let a = c .before .before .before .before .before .before .before .before .before .args in
+    kept (all-by-number (a .n) (a .table .now) (range-inside (a .len)) (c .before .first-failing3 .ensures)) (c .if4 .left)
 
 returns : tie.Need-returns
-unfolding keeps passes
+unfolding keeps
 returns c =
-    let start = c .before .before .before .before in
-    c .at-entry .ensures
-    ∙ sym (fault-3 (start .args .setting) (judged start) (start .args .len)
-    (failed (c .before .before .all-keep .ensures) (c .before .if1 .taken)))
+    let a = c .before .before .before .before .args in
+    c .broken-at .ensures
+    ∙ sym (fault-3 (a .setting) (a .len) (a .n) (a .table .now)
+    (c .before .before .first-failing .ensures) (c .before .if1 .taken))
 
 returns-2 : tie.Need-returns-2
-unfolding both-keep
 returns-2 c =
     let c3 = c .before .before .before in
-    let start = c3 .before .before .before in
-    c .at-clash .ensures
-    ∙ sym (fault-4 (start .args .setting) (judged start) (start .args .len) (rule3 c3)
-    (failed (c .before .before .all-differ .ensures) (c .before .if2 .taken)))
+    let a = c3 .before .before .before .args in
+    c .broken-at2 .ensures
+    ∙ sym (fault-4 (a .setting) (a .len) (a .n) (a .table .now) (rule3 c3)
+    (c .before .before .first-same .ensures) (c .before .if2 .taken))
 
 returns-3 : tie.Need-returns-3
-unfolding keeps passes
+unfolding keeps
 returns-3 c =
     let c4 = c .before .before .before in
     let c3 = c4 .before .before in
-    let start = c3 .before .before .before in
-    c .at-entry2 .ensures
-    ∙ sym (fault-5 (start .args .setting) (judged start) (start .args .len) (rule3 c3) (rule4 c4)
-    (failed (c .before .before .all-keep2 .ensures) (c .before .if3 .taken)))
+    let a = c3 .before .before .before .args in
+    c .broken-at3 .ensures
+    ∙ sym (fault-5 (a .setting) (a .len) (a .n) (a .table .now) (rule3 c3) (rule4 c4)
+    (c .before .before .first-failing2 .ensures) (c .before .if3 .taken))
 
 returns-4 : tie.Need-returns-4
-unfolding keeps passes
+unfolding keeps
 returns-4 c =
     let c5 = c .before .before .before in
     let c4 = c5 .before .before in
     let c3 = c4 .before .before in
-    let start = c3 .before .before .before in
-    c .at-entry3 .ensures
-    ∙ sym (fault-6 (start .args .setting) (judged start) (start .args .len) (rule3 c3) (rule4 c4) (rule5 c5)
-    (failed (c .before .before .all-keep3 .ensures) (c .before .if4 .taken)))
+    let a = c3 .before .before .before .args in
+    c .broken-at4 .ensures
+    ∙ sym (fault-6 (a .setting) (a .len) (a .n) (a .table .now) (rule3 c3) (rule4 c4) (rule5 c5)
+    (c .before .before .first-failing3 .ensures) (c .before .if4 .taken))
 
 returns-5 : tie.Need-returns-5
-unfolding both-keep
 returns-5 c =
     let c6 = c .before .before .before in
     let c5 = c6 .before .before in
     let c4 = c5 .before .before in
     let c3 = c4 .before .before in
-    let start = c3 .before .before .before in
-    c .at-clash2 .ensures
-    ∙ sym (fault-7 (start .args .setting) (judged start) (start .args .len) (rule3 c3) (rule4 c4) (rule5 c5) (rule6 c6)
-    (failed (c .before .before .all-are-apart .ensures) (c .before .if5 .taken)))
+    let a = c3 .before .before .before .args in
+    c .broken-at5 .ensures
+    ∙ sym (fault-7 (a .setting) (a .len) (a .n) (a .table .now) (rule3 c3) (rule4 c4) (rule5 c5) (rule6 c6)
+    (c .before .before .first-overlap .ensures) (c .before .if5 .taken))
 
 returns-6 : tie.Need-returns-6
 returns-6 c =
@@ -90,10 +95,10 @@ returns-6 c =
     let c5 = c6 .before .before in
     let c4 = c5 .before .before in
     let c3 = c4 .before .before in
-    let start = c3 .before .before .before in
+    let a = c3 .before .before .before .args in
     c .six-fault .ensures
-    ∙ sym (fault-of-six (start .args .setting) (judged start) (start .args .len) (rule3 c3) (rule4 c4) (rule5 c5) (rule6 c6)
-    (passed (c .before .before .all-are-apart .ensures) (c .before .if5 .left)))
+    ∙ sym (fault-of-six (a .setting) (a .len) (a .n) (a .table .now) (rule3 c3) (rule4 c4) (rule5 c5) (rule6 c6)
+    (kept (pairs-by-number (a .n) (a .table .now) ranges-apart (c .before .before .first-overlap .ensures)) (c .before .if5 .left)))
 
 pub entries-fault-spec : {M : Type 1} → statement M
 entries-fault-spec =

@@ -4,11 +4,11 @@ use mathlib.Core.Path.{_≡_, sym, _∙_}
 use mathlib.Core.Bool.{true}
 use mathlib.Core.List.{List}
 use borrow.Author.Needs.{needs}
-use Rattle.rules.specs.Table.{Entry, rows, six-named, boot-info-at-0, tables-as-told}
+use Rattle.rules.specs.Table.{Entry, rows, six-named, boot-info-at-0, tables-as-told, table-as-told, block-on-granules}
 use Rattle.walks.specs.Entries.{most-entries}
 use Rattle.walks.proofs.Joined.{failed, passed}
 use Rattle.table.specs.Inner.Six.{Below, below}
-use Rattle.table.specs.Inner.Faults.{passes}
+use Rattle.table.specs.Inner.Rules.{keeps}
 use Rattle.table.proofs.SixFound.{all-below, below-more, six-named-below, rule-9-by-number, rule-10-by-number, rule-11-by-number}
 use Rattle.table.proofs.FaultFound.{fault-8, fault-9, fault-10, fault-11, none-broken}
 use Rattle.table.proofs.faults.six_fault.Statement.{statement}
@@ -50,23 +50,24 @@ rule10 c =
 
 returns : tie.Need-returns
 returns c =
-    let a = c .before .before .before .before .args in
-    sym (fault-8 (a .setting) (rows (a .n) (a .table .now))
-    (six-named-below (a .n) (a .table .now) (c .before .before .find-six .ensures)
-    ∙ failed (c .before .six-are-named .ensures) (c .if1 .taken)))
+    let a = c .before .before .before .before .before .args in
+    c .broken-at .ensures
+    ∙ sym (fault-8 (a .setting) (rows (a .n) (a .table .now))
+    (six-named-below (a .n) (a .table .now) (c .before .before .before .find-six .ensures)
+    ∙ failed (c .before .before .six-are-named .ensures) (c .before .if1 .taken)))
 
 boot-info-is-at-0-requires : tie.Need-boot-info-is-at-0-requires
 boot-info-is-at-0-requires c κs = (c .before .before .before .before .pre .0 .whole, counted c)
 
 returns-2 : tie.Need-returns-2
-unfolding passes
+unfolding keeps
 returns-2 c =
-    let c8 = c .before .before .before in
+    let c8 = c .before .before .before .before in
     let a = c8 .before .before .before .before .args in
-    c .at-entry .ensures
-    ∙ sym (fault-9 (a .setting) (rows (a .n) (a .table .now)) (rule8 c8)
+    rw (c .broken-at2 .ensures, c .before .first-failing .ensures)
+    (sym (fault-9 (a .setting) (rows (a .n) (a .table .now)) (rule8 c8)
     (rule-9-by-number (a .n) (a .table .now) (c8 .before .before .find-six .ensures) (a .setting) (there c8)
-    ∙ failed (c .before .before .boot-info-is-at-0 .ensures) (c .before .if2 .taken)))
+    ∙ failed (c .before .before .before .boot-info-is-at-0 .ensures) (c .before .before .if2 .taken))))
 
 tables-are-as-told-requires : tie.Need-tables-are-as-told-requires
 tables-are-as-told-requires c κs =
@@ -74,15 +75,15 @@ tables-are-as-told-requires c κs =
     (c8 .before .before .before .before .pre .0 .whole, counted c8)
 
 returns-3 : tie.Need-returns-3
-unfolding passes
+unfolding keeps table-as-told
 returns-3 c =
-    let c9 = c .before .before .before in
+    let c9 = c .before .before .before .before in
     let c8 = c9 .before .before in
     let a = c8 .before .before .before .before .args in
-    c .at-entry2 .ensures
-    ∙ sym (fault-10 (a .setting) (rows (a .n) (a .table .now)) (rule8 c8) (rule9 c9)
+    rw (c .broken-at3 .ensures, c .before .first-failing2 .ensures)
+    (sym (fault-10 (a .setting) (rows (a .n) (a .table .now)) (rule8 c8) (rule9 c9)
     (rule-10-by-number (a .n) (a .table .now) (c8 .before .before .find-six .ensures) (a .setting) (there c8)
-    ∙ failed (c .before .before .tables-are-as-told .ensures) (c .before .if3 .taken)))
+    ∙ failed (c .before .before .before .tables-are-as-told .ensures) (c .before .before .if3 .taken))))
 
 blocks-are-on-granules-requires : tie.Need-blocks-are-on-granules-requires
 blocks-are-on-granules-requires c κs =
@@ -91,16 +92,16 @@ blocks-are-on-granules-requires c κs =
     ((start .pre .0 .whole, counted c8), start .pre .1)
 
 returns-4 : tie.Need-returns-4
-unfolding passes
+unfolding keeps block-on-granules
 returns-4 c =
-    let c10 = c .before .before .before in
+    let c10 = c .before .before .before .before in
     let c9 = c10 .before .before in
     let c8 = c9 .before .before in
     let a = c8 .before .before .before .before .args in
-    c .at-entry3 .ensures
-    ∙ sym (fault-11 (a .setting) (rows (a .n) (a .table .now)) (rule8 c8) (rule9 c9) (rule10 c10)
+    rw (c .broken-at4 .ensures, c .before .first-failing3 .ensures)
+    (sym (fault-11 (a .setting) (rows (a .n) (a .table .now)) (rule8 c8) (rule9 c9) (rule10 c10)
     (rule-11-by-number (a .n) (a .table .now) (c8 .before .before .find-six .ensures) (a .setting) (there c8)
-    ∙ failed (c .before .before .blocks-are-on-granules .ensures) (c .before .if4 .taken)))
+    ∙ failed (c .before .before .before .blocks-are-on-granules .ensures) (c .before .before .if4 .taken))))
 
 returns-5 : tie.Need-returns-5
 returns-5 c =
@@ -118,14 +119,18 @@ six-fault-spec =
     (tie.spec
     (λ c κs. search needs)
     (λ c κs. search needs)
+    (λ c κs. search needs)
     returns
     boot-info-is-at-0-requires
+    (λ c κs. search needs)
     (λ c κs. search needs)
     returns-2
     tables-are-as-told-requires
     (λ c κs. search needs)
+    (λ c κs. search needs)
     returns-3
     blocks-are-on-granules-requires
+    (λ c κs. search needs)
     (λ c κs. search needs)
     returns-4
     returns-5)

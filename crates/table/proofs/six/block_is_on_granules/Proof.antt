@@ -11,7 +11,7 @@ unfolding block-on-granules if-named spt0-name spt1-name cpb0-name cpb1-name up-
 returns c =
     let c4 = c .before .before in
     let c2 = c4 .before .before in
-    λ a b. rw (
+    rw (
       all-four,
       c2 .before .before .before .before .is-on-granules .ensures,
       c2 .before .before .has-name .ensures,

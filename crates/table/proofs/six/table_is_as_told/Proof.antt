@@ -7,7 +7,7 @@ use Rattle.table.proofs.six.table_is_as_told.Tie as tie
 
 returns : tie.Need-returns
 unfolding table-as-told spt0-name spt1-name up-to-zero
-returns c = λ g. rw (c .before .before .starts-if-named .ensures, c .starts-if-named2 .ensures)
+returns c = rw (c .before .before .starts-if-named .ensures, c .starts-if-named2 .ensures)
 
 pub table-is-as-told-spec : {M : Type 1} → statement M
 table-is-as-told-spec =

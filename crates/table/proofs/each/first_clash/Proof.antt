@@ -1,7 +1,6 @@
--- `table::faults::at_clash` meets its contract. The loop's invariant: the entry looked for comes as many entries later as
+-- `table::each::first_clash` meets its contract. The loop's invariant: the entry looked for comes as many entries later as
 -- were walked. Assumes nothing.
 use mathlib.Core.Path.{_≡_}
-use mathlib.Core.List.{[]}
 use Prim.Native.Nat.{_+_, _-_, _≤_}
 use native.Mathlib.Omega.{arith}
 use lib.ListN.{drop}
@@ -10,24 +9,19 @@ use Rattle.rules.specs.Lists.{first-clash}
 use Rattle.rules.specs.Table.{rows}
 use Rattle.walks.proofs.Joined.{failed, passed}
 use Rattle.walks.proofs.Entries.{entries-turn, entries-end}
-use Rattle.table.specs.Inner.Rules.{both-keep}
-use Rattle.table.specs.Inner.Faults.{entries-before}
-use Rattle.table.proofs.FaultFound.{clash-over, clash-here, clash-goes, before-next}
-use Rattle.table.proofs.faults.at_clash.Statement.{statement}
-use Rattle.table.proofs.faults.at_clash.Tie as tie
+use Rattle.table.specs.Inner.Rules.{both-keep, entries-before}
+use Rattle.table.proofs.FirstBroken.{clash-over, clash-here, clash-goes, before-next}
+use Rattle.table.proofs.each.first_clash.Statement.{statement}
+use Rattle.table.proofs.each.first_clash.Tie as tie
 
 abbrev Inv-loop : tie.InvT-loop
-Inv-loop number rule table n i₀ i =
+Inv-loop rule table n from i₀ i =
     (i ≤ n)
-    × (first-clash (both-keep rule) [] (rows n table)
+    × (from + first-clash (both-keep rule) (entries-before table from) (drop from (rows n table))
     ≡ i + first-clash (both-keep rule) (entries-before table i) (drop i (rows n table)))
 
 abbrev μ-loop : tie.MeasureT-loop
-μ-loop number rule table n i₀ i = n - i
-
-loop-holds : tie.Need-loop-holds Inv-loop μ-loop
-unfolding entries-before
-loop-holds c = search needs
+μ-loop rule table n from i₀ i = n - i
 
 returns : tie.Need-returns Inv-loop μ-loop
 returns c =
@@ -36,9 +30,7 @@ returns c =
     let turn = entries-turn (a .n) (at .loop .i) (a .table .now) (omega arith) in
     let here = clash-here (both-keep (a .rule)) (entries-before (a .table .now) (at .loop .i)) turn
     (failed (c .before .earlier-keep .ensures) (c .if1 .taken)) in
-    let e : first-clash (both-keep (a .rule)) [] (rows (a .n) (a .table .now)) ≡ at .loop .i
-    = omega (arith, at .loop .inv .1, here) in
-    rw e
+    omega (arith, at .loop .inv .1, here)
 
 loop-again : tie.Need-loop-again Inv-loop μ-loop
 loop-again c =
@@ -55,17 +47,15 @@ returns-2 c =
     let a = at .before .before .args in
     let over = clash-over (both-keep (a .rule)) (entries-before (a .table .now) (at .loop .i))
     (entries-end (a .n) (at .loop .i) (a .table .now) (omega arith)) in
-    let e : first-clash (both-keep (a .rule)) [] (rows (a .n) (a .table .now)) ≡ a .n
-    = omega (arith, at .loop .inv .0, at .loop .inv .1, over) in
-    rw e
+    omega (arith, at .loop .inv .0, at .loop .inv .1, over)
 
-pub at-clash-spec : {M : Type 1} → statement M
-at-clash-spec =
+pub first-clash-spec : {M : Type 1} → statement M
+first-clash-spec =
     tie.close
     (tie.spec
     Inv-loop
     μ-loop
-    loop-holds
+    (λ c. search needs)
     (λ c κs. search needs)
     returns
     (λ c. search needs)

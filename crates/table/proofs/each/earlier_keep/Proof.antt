@@ -1,4 +1,4 @@
--- `table::faults::earlier_keep` meets its contract. The loop's invariant: the entry keeps the rule with all earlier ones
+-- `table::each::earlier_keep` meets its contract. The loop's invariant: the entry keeps the rule with all earlier ones
 -- if it does with those that are left. Assumes nothing.
 use mathlib.Core.Path.{_≡_, sym, _∙_}
 use mathlib.Core.Bool.{Bool}
@@ -11,11 +11,10 @@ use Rattle.walks.specs.Entries.{entry-at}
 use Rattle.walks.proofs.Joined.{failed, passed}
 use Rattle.walks.proofs.Loops.{all-fails, all-goes}
 use Rattle.table.specs.declared.PairRule.{PairRule}
-use Rattle.table.specs.Inner.Rules.{both-keep}
-use Rattle.table.specs.Inner.Faults.{entries-before}
-use Rattle.table.proofs.FaultFound.{before-down}
-use Rattle.table.proofs.faults.earlier_keep.Statement.{statement}
-use Rattle.table.proofs.faults.earlier_keep.Tie as tie
+use Rattle.table.specs.Inner.Rules.{both-keep, entries-before}
+use Rattle.table.proofs.FirstBroken.{before-down}
+use Rattle.table.proofs.each.earlier_keep.Statement.{statement}
+use Rattle.table.proofs.each.earlier_keep.Tie as tie
 
 -- keeps the rule with this entry
 abbrev with-this : PairRule → Entry → Entry → Bool

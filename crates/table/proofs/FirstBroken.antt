@@ -1,0 +1,120 @@
+-- The first entry that does not keep a rule by itself, or with an earlier one: one turn and the end of the walks that look
+-- for it; its number is that of the entries exactly if all keep the rule. Assumes nothing.
+use mathlib.Core.Path.{_≡_, refl, sym, ap, _∙_}
+use mathlib.Core.Bool.{Bool, true, false, _&&_}
+use mathlib.Core.List.{List, [], _∷_}
+use Prim.Native.Nat.{ℕ, zero, suc, _+_, _-_, _<_, compare·suc-suc, compare·zero-suc}
+use native.Mathlib.Numerals.{add-one}
+use native.Mathlib.Omega.{arith}
+use lib.Dec.{eqb}
+use lib.ListN.{length}
+use borrow.Author.Tests.{eq-eqb, ne-eqb}
+use Rattle.rules.specs.Lists.{all, pairwise, first-failing, first-clash}
+use Rattle.rules.specs.Table.{Entry, rows}
+use Rattle.rules.proofs.Lists.Tests.{by-cases}
+use Rattle.rules.proofs.Table.Standing.{length-entries-from}
+use Rattle.walks.specs.Entries.{entry-at}
+use Rattle.table.specs.Inner.Rules.{entries-before}
+
+-- ---- the walks; `xs` is what is left to walk
+
+module _ {A : Type 0} {xs : List A} where
+  pub failing-over : (f : A → Bool) → xs ≡ [] → first-failing f xs ≡ 0
+  unfolding first-failing
+  failing-over f e = rw e
+
+  pub clash-over : (f : A → A → Bool) (earlier : List A) → xs ≡ [] → first-clash f earlier xs ≡ 0
+  unfolding first-clash
+  clash-over f earlier e = rw e
+
+  module _ {x : A} {rest : List A} where
+    pub failing-here : (f : A → Bool) → xs ≡ x ∷ rest → f x ≡ false → first-failing f xs ≡ 0
+    unfolding first-failing
+    failing-here f e h = rw (e, h)
+
+    pub failing-goes : (f : A → Bool) → xs ≡ x ∷ rest → f x ≡ true → first-failing f xs ≡ suc (first-failing f rest)
+    unfolding first-failing
+    failing-goes f e h = rw (e, h)
+
+    module _ (f : A → A → Bool) (earlier : List A) where
+      pub clash-here : xs ≡ x ∷ rest → all (λ y. f y x) earlier ≡ false → first-clash f earlier xs ≡ 0
+      unfolding first-clash
+      clash-here e h = rw (e, h)
+
+      pub clash-goes : xs ≡ x ∷ rest
+          → all (λ y. f y x) earlier ≡ true
+          → first-clash f earlier xs ≡ suc (first-clash f (x ∷ earlier) rest)
+      unfolding first-clash
+      clash-goes e h = rw (e, h)
+
+-- one more entry is before the next; and the same on the way down
+pub before-next : (t : List ℕ) (k : ℕ) → entries-before t (k + 1) ≡ entry-at t k ∷ entries-before t k
+unfolding entries-before
+before-next t k = rw add-one
+
+pub before-down : (t : List ℕ) (k : ℕ) → 0 < k → entries-before t k ≡ entry-at t (k - 1) ∷ entries-before t (k - 1)
+unfolding entries-before
+before-down t zero h = absurd (omega (arith, h))
+before-down t (suc k) h = let e : suc k - 1 ≡ k = omega arith in rw e
+
+-- ---- the number of elements where all keep the rule
+
+and-inner : (a b c d : Bool) → a && b && (c && d) ≡ a && c && (b && d)
+and-inner true true c d = refl
+and-inner true false true d = refl
+and-inner true false false d = refl
+and-inner false b c d = refl
+
+and-turn : (a b c : Bool) → a && b && c ≡ b && (a && c)
+and-turn true b c = refl
+and-turn false true c = refl
+and-turn false false c = refl
+
+module _ {A : Type 0} where
+  none-fails : (f : A → Bool) (xs : List A) → eqb (first-failing f xs) (length xs) ≡ all f xs
+  unfolding all first-failing
+  none-fails f [] = refl
+  none-fails f (x ∷ xs) =
+      by-cases (f x) (λ t. rw (t, compare·suc-suc) (none-fails f xs)) (λ t. rw (t, compare·zero-suc))
+
+  all-of-both : (f g : A → Bool) (xs : List A) → all (λ x. f x && g x) xs ≡ all f xs && all g xs
+  unfolding all
+  all-of-both f g [] = refl
+  all-of-both f g (x ∷ xs) = rw (all-of-both f g xs) (and-inner (f x) (g x) (all f xs) (all g xs))
+
+  none-clashes : (f : A → A → Bool) (earlier xs : List A)
+      → eqb (first-clash f earlier xs) (length xs) ≡ all (λ x. all (λ y. f y x) earlier) xs && pairwise f xs
+  unfolding all pairwise first-clash
+  none-clashes f earlier [] = refl
+  none-clashes f earlier (x ∷ xs) =
+      by-cases (all (λ y. f y x) earlier)
+      (λ t. rw (t, compare·suc-suc)
+      (none-clashes f (x ∷ earlier) xs
+      ∙ ap (λ b. b && pairwise f xs) (all-of-both (f x) (λ z. all (λ y. f y z) earlier) xs)
+      ∙ and-turn (all (f x) xs) (all (λ z. all (λ y. f y z) earlier) xs) (pairwise f xs)))
+      (λ t. rw (t, compare·zero-suc))
+
+  -- with no earlier element all pass
+  none-earlier : (f : A → A → Bool) (xs : List A) → all (λ x. all (λ y. f y x) []) xs ≡ true
+  unfolding all
+  none-earlier f [] = refl
+  none-earlier f (x ∷ xs) = none-earlier f xs
+
+module _ (n : ℕ) (t : List ℕ) {e : ℕ} where
+  pub all-by-number : (f : Entry → Bool) → e ≡ first-failing f (rows n t) → eqb e n ≡ all f (rows n t)
+  all-by-number f h = rw (h, ← none-fails f (rows n t), length-entries-from)
+
+  pub pairs-by-number : (f : Entry → Entry → Bool)
+      → e ≡ first-clash f [] (rows n t)
+      → eqb e n ≡ pairwise f (rows n t)
+  pairs-by-number f h =
+      let known = rw length-entries-from at (none-clashes f [] (rows n t)) in
+      rw h (known ∙ rw (none-earlier f (rows n t)))
+
+-- what the test of such a number tells of the rule
+module _ {e n : ℕ} {rule : Bool} (known : eqb e n ≡ rule) where
+  pub kept : e ≡ n → rule ≡ true
+  kept h = sym known ∙ eq-eqb e n h
+
+  pub not-kept : (e ≡ n → ⊥) → rule ≡ false
+  not-kept h = sym known ∙ ne-eqb e n h
