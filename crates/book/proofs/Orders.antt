@@ -1,4 +1,4 @@
--- Boot orders in rows: the slots that are meant, a slot left out, two rows compared. Assumes nothing.
+-- Boot orders in rows: the slots that are meant, what becomes of them, two rows compared. Assumes nothing.
 use mathlib.Core.Path.{_≡_, refl, sym, ap, _∙_}
 use mathlib.Core.Bool.{true, false, cond}
 use mathlib.Core.List.{List, [], _∷_, _++_, map}
@@ -15,8 +15,11 @@ use Rattle.rules.proofs.Order.OnceEach.{without-length}
 use Rattle.walks.specs.Entries.{most-entries}
 use Rattle.text.specs.Put.{Put}
 use Rattle.text.proofs.Puts.{put-nothing, put-whole, then}
-use Rattle.book.specs.Kept.{room, no-slots, slots-of}
+use Rattle.rules.specs.Book.{lowered}
+use Rattle.book.specs.Kept.{room, no-slots, slots-of, kept}
 use Rattle.book.specs.declared.order.Order.{Order}
+use Rattle.book.specs.declared.order.Change.{Change}
+use Rattle.book.specs.declared.order.Change.the-variants.{Without, Lowered}
 
 pub room-for : {row : List ℕ} → row ≡ no-slots → length row ≡ room
 unfolding no-slots
@@ -53,84 +56,66 @@ pub not-left-out : (k x : ℕ) → (k ≡ x → ⊥) → without k (x ∷ []) �
 unfolding without
 not-left-out k x e = rw (ne-eqb k x e)
 
-pub no-others : (k : ℕ) {out : List ℕ} {at : ℕ} → Put out at (without k []) out at
-unfolding without
-no-others k = put-nothing _ _
+-- ---- what becomes of slots
 
-module _ {out after : List ℕ} {at end : ℕ} (k : ℕ) (slots : List ℕ) (i : ℕ)
-    (before : Put out at (without k (take i slots)) after end) where
-  pub others-more : {last : List ℕ} {final : ℕ}
+map-append : (f : ℕ → ℕ) (a b : List ℕ) → map f (a ++ b) ≡ map f a ++ map f b
+map-append f [] b = refl
+map-append f (x ∷ a) b = ap (λ (l : List ℕ). f x ∷ l) (map-append f a b)
+
+kept-append : (h : Change) (a b : List ℕ) → kept h (a ++ b) ≡ kept h a ++ kept h b
+unfolding kept
+kept-append (Without k) a b = without-append (k .0) a b
+kept-append (Lowered g) a b = map-append (lowered (g .0)) a b
+
+kept-length : (h : Change) (a : List ℕ) → length (kept h a) ≤ length a
+unfolding kept
+kept-length (Without k) a = without-length (k .0) a
+kept-length (Lowered g) a = omega (arith, length-map a (lowered (g .0)))
+
+pub none-kept : (h : Change) {out : List ℕ} {at : ℕ} → Put out at (kept h []) out at
+unfolding kept without
+none-kept (Without k) = put-nothing _ _
+none-kept (Lowered g) = put-nothing _ _
+
+module _ {out after : List ℕ} {at end : ℕ} (h : Change) (slots : List ℕ) (i : ℕ)
+    (before : Put out at (kept h (take i slots)) after end) where
+  pub kept-more : {last : List ℕ} {final : ℕ}
       → i < length slots
-      → Put after end (without k (getD slots i 0 ∷ [])) last final
-      → Put out at (without k (take (i + 1) slots)) last final
-  others-more h p =
-      rw (add-one, take-suc slots i 0 h, without-append k (take i slots) (getD slots i 0 ∷ [])) (then before p)
+      → Put after end (kept h (getD slots i 0 ∷ [])) last final
+      → Put out at (kept h (take (i + 1) slots)) last final
+  kept-more l p = rw (add-one, take-suc slots i 0 l, kept-append h (take i slots) (getD slots i 0 ∷ [])) (then before p)
 
-  pub others-all : length slots ≤ i → Put out at (without k slots) after end
-  others-all h = rw take-all at before
+  pub kept-all : length slots ≤ i → Put out at (kept h slots) after end
+  kept-all l = rw take-all at before
 
--- ---- each number changed
-
-module _ (f : ℕ → ℕ) where
-  map-append : (a b : List ℕ) → map f (a ++ b) ≡ map f a ++ map f b
-  map-append [] b = refl
-  map-append (x ∷ a) b = ap (λ (l : List ℕ). f x ∷ l) (map-append a b)
-
-  module _ {out after : List ℕ} {at end : ℕ} (slots : List ℕ) (i : ℕ)
-      (before : Put out at (map f (take i slots)) after end) where
-    pub changed-more : {last : List ℕ} {final : ℕ}
-        → i < length slots
-        → Put after end (f (getD slots i 0) ∷ []) last final
-        → Put out at (map f (take (i + 1) slots)) last final
-    changed-more h p =
-        rw (add-one, take-suc slots i 0 h, map-append (take i slots) (getD slots i 0 ∷ [])) (then before p)
-
-    pub changed-all : length slots ≤ i → Put out at (map f slots) after end
-    changed-all h = rw take-all at before
-
-  pub order-changed : (o : Order) (n : ℕ) {out after : List ℕ} {end : ℕ}
-      → length (o .row) ≡ room
-      → n ≡ min (o .count) room
-      → length out ≡ room
-      → Put out 0 (map f (take n (o .row))) after end
-      → take end after ≡ map f (slots-of o)
-  order-changed o n whole meant empty p =
-      put-whole
-      (omega (arith, length-map (take n (o .row)) f, length-take-le n (o .row) (omega arith)))
-      p
-      ∙ ap (map f) (slots-meant o n whole meant)
-
--- ---- an order without a slot, or with it first
+-- ---- an order changed, or with a slot first
 
 -- n slots of the order are meant
-module _ (o : Order) (n k : ℕ) (whole : length (o .row) ≡ room) (meant : n ≡ min (o .count) room) where
+module _ (o : Order) (n : ℕ) (whole : length (o .row) ≡ room) (meant : n ≡ min (o .count) room) where
   pub meant-length : length (slots-of o) ≡ n
   meant-length = ap length (sym (slots-meant o n whole meant)) ∙ length-take-le n (o .row) (omega arith)
 
-  others-few : length (without k (take n (o .row))) ≤ n
-  others-few =
-      omega (arith, without-length k (take n (o .row)), length-take-le n (o .row) (omega arith))
-
   module _ {out after : List ℕ} {end : ℕ} (empty : length out ≡ room) where
-    pub order-without : Put out 0 (without k (take n (o .row))) after end → take end after ≡ without k (slots-of o)
-    order-without p =
-        put-whole (omega (arith, others-few)) p ∙ ap (λ (l : List ℕ). without k l) (slots-meant o n whole meant)
+    pub order-changed : (h : Change) → Put out 0 (kept h (take n (o .row))) after end → take end after ≡ kept h (slots-of o)
+    order-changed h p =
+        put-whole (omega (arith, kept-length h (take n (o .row)), length-take-le n (o .row) (omega arith))) p
+        ∙ ap (kept h) (slots-meant o n whole meant)
 
-    pub order-with-first : {half : List ℕ} {at : ℕ}
+    pub order-with-first : (k : ℕ) {half : List ℕ} {at : ℕ}
         → n ≤ most-entries
         → Put out 0 (k ∷ []) half at
         → Put half at (without k (take n (o .row))) after end
         → take end after
         ≡ cond (leb (length (slots-of o)) most-entries) (k ∷ without k (slots-of o)) (slots-of o)
-    order-with-first few p q =
+    order-with-first k few p q =
         let first : take end after ≡ k ∷ without k (take n (o .row)) =
-        put-whole (omega (arith, others-few)) (then p q) in
+        put-whole (omega (arith, without-length k (take n (o .row)), length-take-le n (o .row) (omega arith))) (then p q) in
         rw (le-leb (length (slots-of o)) most-entries (omega (arith, meant-length)))
         (first ∙ ap (λ (l : List ℕ). k ∷ without k l) (slots-meant o n whole meant))
 
-  pub order-too-long : most-entries < n
+  pub order-too-long : (k : ℕ) → most-entries < n
       → slots-of o ≡ cond (leb (length (slots-of o)) most-entries) (k ∷ without k (slots-of o)) (slots-of o)
-  order-too-long many = rw (lt-leb (length (slots-of o)) most-entries (omega (arith, meant-length)))
+  order-too-long k many = rw (lt-leb (length (slots-of o)) most-entries (omega (arith, meant-length)))
 
 -- ---- two rows compared
 

@@ -4,7 +4,7 @@ use mathlib.Core.List.{List, [], _∷_, map}
 use Prim.Native.Nat.{ℕ}
 use lib.Dec.{leb, ltb}
 use lib.ListN.{take, length, replicate}
-use Rattle.rules.specs.Lists.{same}
+use Rattle.rules.specs.Lists.{same, without}
 use Rattle.rules.specs.Bytes.{block-size}
 use Rattle.rules.specs.Answers.{Answer, refused, given}
 use Rattle.rules.specs.Table.{entry-count, entries}
@@ -14,6 +14,8 @@ use Rattle.rules.specs.Commands.{Command, enable, disable, rename, create, dele
 use Rattle.rules.specs.Book.{Reading, lowered, changed}
 use Rattle.walks.specs.Entries.{most-entries}
 use Rattle.book.specs.declared.order.Order.{Order}
+use Rattle.book.specs.declared.order.Change.{Change}
+use Rattle.book.specs.declared.order.Change.the-variants.{Without, Lowered}
 use Rattle.book.specs.declared.Book.{Book}
 use Rattle.book.specs.declared.Answer.{Answer as Answered}
 use Rattle.book.specs.declared.Answer.the-variants.{Given, Refused}
@@ -40,6 +42,11 @@ no-block = replicate block-size 0
 unfoldable pub slots-of : Order → List ℕ
 slots-of o = take (o .count) (o .row)
 
+-- what becomes of slots
+unfoldable pub kept : Change → List ℕ → List ℕ
+kept (Without k) slots = without (k .0) slots
+kept (Lowered g) slots = map (lowered (g .0)) slots
+
 unfoldable pub reading-of : Book → Reading
 reading-of b = record { table = b .table; boot = slots-of (b .order) }
 
@@ -47,7 +54,7 @@ unfoldable pub answer-of : Answered → Reading → Answer Reading
 answer-of Given r = given r
 answer-of (Refused why) r = refused why
 
--- the reading that was given, or refused 1 to 5
+-- the reading that was given, or refused 1, 2, 3, 50, 51 or 5
 unfoldable pub read-as : Read → Answer Reading
 read-as r = answer-of (r .answer) (reading-of (r .book))
 

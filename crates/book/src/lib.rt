@@ -1,6 +1,7 @@
 // Document 01's book for the programs that try the commands on real bytes: what a flash reads as, and the change that
 // each finished command makes.
 use commands::Command;
+use order::Change;
 use order::Order;
 use reading::Listed;
 use reading::Viewed;
@@ -100,7 +101,7 @@ pub fn booked(book: Book, command: Command, image: &[u8], setting: Setting) -> B
     let order = book.order;
     match command {
         Command::Enable(slot) => with_order(table, order::with_first(order, slot)),
-        Command::Disable(slot) => with_order(table, order::without(order, slot)),
+        Command::Disable(slot) => with_order(table, order::changed(order, Change::Without(slot))),
         Command::Rename(slot) => with_order(parts::renamed(table, slot), order),
         Command::Create(size) => {
             with_order(parts::with_new_slot(table, image, setting, size), order)
@@ -121,7 +122,7 @@ fn deleted(book: Book, slot: SlotNo) -> Book
     }
     with_order(
         parts::without_slot(table, slot),
-        order::after_delete(order, slot),
+        order::changed(order, Change::Lowered(slot)),
     )
 }
 

@@ -2,7 +2,7 @@
 use rules::SlotNo;
 ghost use mathlib.Core.Path.{_≡_};
 ghost use mathlib.Core.Bool.{cond};
-ghost use mathlib.Core.List.{[], _∷_, map};
+ghost use mathlib.Core.List.{[], _∷_};
 ghost use Prim.Native.Nat.{min};
 ghost use lib.Dec.{leb};
 ghost use lib.ListN.{length};
@@ -10,7 +10,7 @@ ghost use Rattle.rules.specs.Lists.{same, without};
 ghost use Rattle.rules.specs.Book.{lowered};
 ghost use Rattle.walks.specs.Entries.{most-entries};
 ghost use Rattle.text.specs.Put.{Put};
-ghost use Rattle.book.specs.Kept.{room, no-slots, slots-of};
+ghost use Rattle.book.specs.Kept.{room, no-slots, slots-of, kept};
 
 // A table has at most 127 slots, and one more may be put before them.
 pub const ROOM: usize = 128;
@@ -19,6 +19,12 @@ pub const ROOM: usize = 128;
 pub struct Order {
     pub row: [u32; ROOM],
     pub count: usize,
+}
+
+// What becomes of the slots of an order: one is left out, or each number above that of a slot that is gone is one lower.
+pub enum Change {
+    Without(SlotNo),
+    Lowered(SlotNo),
 }
 
 pub fn no_slots() -> [u32; ROOM]
@@ -59,19 +65,6 @@ fn put_other(row: &mut [u32], at: usize, slot: SlotNo, absent: SlotNo) -> usize
     put_slot(row, at, slot)
 }
 
-// Slots in their order, without one.
-fn put_others(row: &mut [u32], at: usize, slots: &[u32], absent: SlotNo) -> usize
-    ensures { λ r. ⌜ Put (now (row .entry)) at (without (absent .0) (now (slots .entry))) (now (row .exit)) r ⌝ }
-{
-    let mut end = at;
-    let mut i = 0;
-    while i < slots.len() {
-        end = put_other(row, end, SlotNo(slots[i]), absent);
-        i += 1;
-    }
-    end
-}
-
 // A slot's number once another slot is gone.
 fn lowered(slot: SlotNo, gone: SlotNo) -> SlotNo
     ensures { λ r. ⌜ r .0 ≡ lowered (gone .0) (slot .0) ⌝ }
@@ -82,14 +75,24 @@ fn lowered(slot: SlotNo, gone: SlotNo) -> SlotNo
     slot
 }
 
-// Slots in their order, once another slot is gone.
-fn put_lowered(row: &mut [u32], at: usize, slots: &[u32], gone: SlotNo) -> usize
-    ensures { λ r. ⌜ Put (now (row .entry)) at (map (lowered (gone .0)) (now (slots .entry))) (now (row .exit)) r ⌝ }
+// What becomes of one slot.
+fn put_kept(row: &mut [u32], at: usize, slot: SlotNo, change: Change) -> usize
+    ensures { λ r. ⌜ Put (now (row .entry)) at (kept change (slot .0 ∷ [])) (now (row .exit)) r ⌝ }
+{
+    match change {
+        Change::Without(absent) => put_other(row, at, slot, absent),
+        Change::Lowered(gone) => put_slot(row, at, lowered(slot, gone)),
+    }
+}
+
+// What becomes of slots, in their order.
+fn put_all_kept(row: &mut [u32], at: usize, slots: &[u32], change: Change) -> usize
+    ensures { λ r. ⌜ Put (now (row .entry)) at (kept change (now (slots .entry))) (now (row .exit)) r ⌝ }
 {
     let mut end = at;
     let mut i = 0;
     while i < slots.len() {
-        end = put_slot(row, end, lowered(SlotNo(slots[i]), gone));
+        end = put_kept(row, end, SlotNo(slots[i]), change);
         i += 1;
     }
     end
@@ -97,28 +100,14 @@ fn put_lowered(row: &mut [u32], at: usize, slots: &[u32], gone: SlotNo) -> usize
 
 // ---- orders
 
-// An order without a slot.
-pub fn without(order: Order, slot: SlotNo) -> Order
-    ensures { λ r. ⌜ slots-of r ≡ without (slot .0) (slots-of order) ⌝ }
+// An order without a slot, or once another slot is gone.
+pub fn changed(order: Order, change: Change) -> Order
+    ensures { λ r. ⌜ slots-of r ≡ kept change (slots-of order) ⌝ }
 {
     let old = order.row;
     let n = meant(order);
     let mut row = no_slots();
-    let count = put_others(&mut row, 0, &old[..n], slot);
-    Order {
-        row: row,
-        count: count,
-    }
-}
-
-// An order once another slot is gone: each number above that slot's is one lower.
-pub fn after_delete(order: Order, gone: SlotNo) -> Order
-    ensures { λ r. ⌜ slots-of r ≡ map (lowered (gone .0)) (slots-of order) ⌝ }
-{
-    let old = order.row;
-    let n = meant(order);
-    let mut row = no_slots();
-    let count = put_lowered(&mut row, 0, &old[..n], gone);
+    let count = put_all_kept(&mut row, 0, &old[..n], change);
     Order {
         row: row,
         count: count,
@@ -137,7 +126,7 @@ pub fn with_first(order: Order, slot: SlotNo) -> Order
     }
     let mut row = no_slots();
     let at = put_slot(&mut row, 0, slot);
-    let count = put_others(&mut row, at, &old[..n], slot);
+    let count = put_all_kept(&mut row, at, &old[..n], Change::Without(slot));
     Order {
         row: row,
         count: count,

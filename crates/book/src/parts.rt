@@ -1,5 +1,6 @@
 // Tables by value.
 use reading::Viewed;
+use rules::EntryNo;
 use rules::Setting;
 use rules::SlotNo;
 ghost use mathlib.Core.Path.{_≡_};
@@ -10,7 +11,7 @@ ghost use Rattle.rules.specs.Lists.{same};
 ghost use Rattle.rules.specs.Bytes.{block-size};
 ghost use Rattle.rules.specs.Table.{entry-count, entries};
 ghost use Rattle.rules.specs.Readers.{slot-row};
-ghost use Rattle.rules.specs.Commands.{padded-name, size-right, with-new-row, without-row};
+ghost use Rattle.rules.specs.Commands.{size-right, with-new-row, without-row};
 ghost use Rattle.rules.specs.Book.{renamed, start-for};
 ghost use Rattle.book.specs.Kept.{new-name, no-block, has-slot, has-row};
 
@@ -34,30 +35,6 @@ pub fn new_name() -> [u8; 15]
         b'J',
         b'U',
         b'L',
-    ]
-}
-
-// The same with its zero.
-fn padded_name() -> [u8; 16]
-    ensures { λ r. ⌜ r ≡ padded-name new-name ⌝ }
-{
-    [
-        b'S',
-        b'O',
-        b'L',
-        b'V',
-        b'E',
-        b'R',
-        b'_',
-        b'2',
-        b'0',
-        b'2',
-        b'7',
-        b'_',
-        b'J',
-        b'U',
-        b'L',
-        0,
     ]
 }
 
@@ -87,21 +64,15 @@ pub fn block_of(part: &[u8]) -> [u8; 4096]
 pub fn renamed(table: [u8; 4096], slot: SlotNo) -> [u8; 4096]
     ensures { λ r. ⌜ r ≡ cond (has-slot table (slot .0)) (renamed table (slot .0) new-name) table ⌝ }
 {
-    let n = entries::entry_count(&table);
-    if entries::MOST_ENTRIES < n {
+    if !has_slot(table, slot) {
         return table;
     }
-    if slots::count_slots(&table, n) <= slot.0 as usize {
-        return table;
-    }
-    let e = slots::slot_row(&table, n, slot);
-    let name = padded_name();
+    let e = entry_of(table, slot);
+    let name = new_name();
     if entries::has_name(&table, e, &name) {
         return table;
     }
-    let mut changed = table;
-    text::put_bytes(&mut changed, entries::entry_offset(e), &name);
-    changed
+    blocks::tables::with_name(&table, e, &name)
 }
 
 // A table has such a slot, among no more entries than there is room for.
@@ -115,13 +86,22 @@ pub fn has_slot(table: [u8; 4096], slot: SlotNo) -> bool
     (slot.0 as usize) < slots::count_slots(&table, n)
 }
 
+// The entry of a slot that a table has.
+fn entry_of(table: [u8; 4096], slot: SlotNo) -> EntryNo
+    requires { ⌜ has-slot table (slot .0) ≡ true ⌝ }
+    ensures { λ r. ⌜ r .0 ≡ slot-row (entries table) (slot .0) ⌝ }
+{
+    let n = entries::entry_count(&table);
+    slots::slot_row(&table, n, slot)
+}
+
 // A table without the row of a slot that it has.
 pub fn without_slot(table: [u8; 4096], slot: SlotNo) -> [u8; 4096]
     requires { ⌜ has-slot table (slot .0) ≡ true ⌝ }
     ensures { λ r. ⌜ r ≡ without-row table (slot-row (entries table) (slot .0)) ⌝ }
 {
+    let e = entry_of(table, slot);
     let n = entries::entry_count(&table);
-    let e = slots::slot_row(&table, n, slot);
     rooms::rows::without_row(&table, n, e)
 }
 

@@ -24,7 +24,7 @@ condition-by s img v = record {
   pointers = pointers-agree img v;
 }
 
--- refusals 1 to 5, or the condition of the four blocks
+-- refusals 1, 2, 3, 50, 51 and 5, or the condition of the four blocks
 unfoldable pub condition : Setting → List ℕ → Answer Condition
 condition s img = view s img >>= λ v. given (condition-by s img v)
 

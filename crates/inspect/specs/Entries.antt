@@ -12,7 +12,7 @@ use Rattle.rules.specs.Copies.{view}
 use Rattle.rules.specs.Readers.{table-part}
 use Rattle.rules.specs.declared.Facts.{Facts}
 
--- refusals 1 to 5, or the number of entries
+-- refusals 1, 2, 3, 50, 51 and 5, or the number of entries
 unfoldable pub entry-total : Setting → List ℕ → Answer ℕ
 entry-total s img = view s img >>= λ v. given (entry-count (block img (v .table)))
 
@@ -35,7 +35,7 @@ facts-of es i = record {
 unfoldable pub info-in : List Entry → ℕ → Answer Facts
 info-in es i = unless 92 (entry-there es i) (given (facts-of es i))
 
--- refusals 1 to 5 and 92, or what is known of an entry beside its name
+-- refusals 1, 2, 3, 50, 51, 5 and 92, or what is known of an entry beside its name
 unfoldable pub entry-info : Setting → List ℕ → ℕ → Answer Facts
 entry-info s img i = view s img >>= λ v. info-in (entries (block img (v .table))) i
 

@@ -13,7 +13,7 @@ use Rattle.inspect.specs.declared.Held.{Held}
 use Rattle.inspect.specs.declared.Holding.{Holding}
 use Rattle.inspect.specs.declared.Holding.the-variants.{Is, Refused}
 
--- refusals 1 to 5, or the number of places
+-- refusals 1, 2, 3, 50, 51 and 5, or the number of places
 unfoldable pub place-total : Setting → List ℕ → Answer ℕ
 place-total s img = view s img >>= λ v. given (place-count (block img (v .pointers)))
 
@@ -29,7 +29,7 @@ held t p k = record { judgement = judged (starts t) (value-of p k); value = valu
 unfoldable pub held-in : List ℕ → List ℕ → ℕ → Answer Held
 held-in t p k = unless 93 (ltb k (place-count p)) (given (held t p k))
 
--- refusals 1 to 5 and 93, or what a place holds
+-- refusals 1, 2, 3, 50, 51, 5 and 93, or what a place holds
 unfoldable pub place-at : Setting → List ℕ → ℕ → Answer Held
 place-at s img k = view s img >>= λ v. held-in (block img (v .table)) (block img (v .pointers)) k
 

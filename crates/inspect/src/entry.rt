@@ -14,7 +14,7 @@ ghost use Rattle.walks.specs.Entries.{HasEntries};
 ghost use Rattle.inspect.specs.Totals.{totalled};
 ghost use Rattle.inspect.specs.Entries.{entry-total, info-in, entry-info, name-in, entry-name};
 
-// Refusals 1 to 5, or how many entries there are.
+// Refusals 1, 2, 3, 50, 51 and 5, or how many entries there are.
 pub fn entry_total(image: &[u8], setting: Setting) -> Total
     ensures { λ r. ⌜ totalled r ≡ entry-total setting (now (image .entry)) ⌝ }
 {
@@ -29,7 +29,7 @@ pub fn entry_total(image: &[u8], setting: Setting) -> Total
     }
 }
 
-// Refusals 1 to 5 and 92, or the number, start, length and flags of an entry.
+// Refusals 1, 2, 3, 50, 51, 5 and 92, or the number, start, length and flags of an entry.
 pub fn entry_info(image: &[u8], setting: Setting, entry: EntryNo) -> Known
     ensures { λ r. ⌜ known r ≡ entry-info setting (now (image .entry)) (entry .0) ⌝ }
 {

@@ -9,7 +9,7 @@ ghost use Rattle.rules.specs.Answers.{given};
 ghost use Rattle.rules.specs.Copies.{view};
 ghost use Rattle.inspect.specs.Condition.{condition-by, condition, inspected};
 
-// Refusals 1 to 5, or the condition of the four blocks.
+// Refusals 1, 2, 3, 50, 51 and 5, or the condition of the four blocks.
 pub fn condition_of(image: &[u8], setting: Setting) -> Inspected
     ensures { λ r. ⌜ inspected r ≡ condition setting (now (image .entry)) ⌝ }
 {

@@ -14,7 +14,7 @@ ghost use Rattle.places.specs.Inner.StandingPointers.{StandingPointers};
 ghost use Rattle.inspect.specs.Totals.{totalled};
 ghost use Rattle.inspect.specs.Places.{place-total, held-in, place-at, holding};
 
-// Refusals 1 to 5, or how many places there are.
+// Refusals 1, 2, 3, 50, 51 and 5, or how many places there are.
 pub fn place_total(image: &[u8], setting: Setting) -> Total
     ensures { λ r. ⌜ totalled r ≡ place-total setting (now (image .entry)) ⌝ }
 {
@@ -29,7 +29,7 @@ pub fn place_total(image: &[u8], setting: Setting) -> Total
     }
 }
 
-// Refusals 1 to 5 and 93, or what a place holds by the table read.
+// Refusals 1, 2, 3, 50, 51, 5 and 93, or what a place holds by the table read.
 pub fn place_at(image: &[u8], setting: Setting, place: PlaceNo) -> Holding
     ensures { λ r. ⌜ holding r ≡ place-at setting (now (image .entry)) (place .0) ⌝ }
 {

@@ -310,7 +310,7 @@ pub extern "C" fn delunkpawi_place_count(
     }
 }
 
-// What a place holds: 0 for erased, 1 for live with its slot, 2 for dead; and its value.
+// What a place holds: 0 for erased, 1 for live with its slot, 2 for spent, 3 for part-written, 4 for stray; and its value.
 #[no_mangle]
 pub extern "C" fn delunkpawi_place(
     image: &[u8],

@@ -1,5 +1,6 @@
 pub mod Views
 pub mod Seen
+pub mod Due
 pub mod Opening
 pub mod SlotFacts
 pub mod Empty

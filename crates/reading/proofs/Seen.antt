@@ -94,13 +94,13 @@ module _ (s : Setting) (len : ℕ) (placed : addresses-right s len ≡ true) whe
 
 -- ---- a table that stands can be followed
 
-pub followed : (s : Setting) (img : List ℕ) (at : ℕ) → block-size ≤ s .granule → at + s .granule ≤ length img
+pub followed : (s : Setting) (img : List ℕ) (at : ℕ) → block-size ≤ s .granule → at + block-size ≤ length img
     → table-stands s (length img) (block img at) ≡ true → Followed img at
 followed s img at holds inside h =
     let st = standing s (length img) (block img at) h in
     let blocks = four-blocks s (length img) (block img at) st in
     record {
-      table-inside = omega arith;
+      table-inside = inside;
       count-right = at-most-127 (block img at) (st .rule2);
       cpb0-inside = omega (arith, blocks .cpb0-inside);
       cpb1-inside = omega (arith, blocks .cpb1-inside);
@@ -135,7 +135,7 @@ module _ (s : Setting) (img : List ℕ) (v : View) (k : Seen s img v) where
       let (inside0, inside1) = told-inside s (length img) (k .placed) in
       followed s img (v .table) holds
       (of-either (no-table s img) (table-stands s (length img)) img (s .spt0) (s .spt1) (v .table) (k .table-copy)
-      (λ (a : ℕ). a + s .granule ≤ length img) inside0 inside1)
+      (λ (a : ℕ). a + block-size ≤ length img) (omega (arith, holds)) (omega (arith, holds)))
       table-read-stands
 
   pub pointers-inside : v .pointers + block-size ≤ length img

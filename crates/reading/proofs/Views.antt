@@ -6,14 +6,13 @@ use Prim.Native.Nat.{ℕ}
 use lib.ListN.{length}
 use Rattle.rules.specs.Bytes.{block}
 use Rattle.rules.specs.Answers.{refused, given, numbered, unless, _>>=_}
-use Rattle.rules.specs.Numbers.{length-right, granule-right, addresses-right}
 use Rattle.rules.specs.declared.Setting.{Setting}
 use Rattle.rules.specs.Table.{cpb0-of, cpb1-of, magic-right, table-stands, fault}
 use Rattle.rules.specs.Pointers.{pointers-stand}
 use Rattle.rules.specs.Copies.{copy-read, no-table, table-read, pointers-read, view-through, view}
-use Rattle.rules.specs.Readers.{table-faults}
 use Rattle.rules.specs.declared.Refusal.{Refusal}
 use Rattle.rules.specs.declared.View.{View}
+use Rattle.reading.specs.Inner.Due.{NoneDue}
 
 -- where things are by the table at an address, with a pointer copy
 abbrev pub view-at : Setting → List ℕ → ℕ → ℕ → View
@@ -45,68 +44,25 @@ module _ (s : Setting) (img : List ℕ) (at : ℕ) where
     unfolding view-through pointers-read copy-read _>>=_
     refused-5 h = rw (no0, h)
 
--- ---- the refusals in their order
+-- ---- if none of refusals 1 to 3 is due
+
+module _ (s : Setting) (img : List ℕ) (k : NoneDue s (length img)) where
+  pub through-spt0 : table-stands s (length img) (block img (s .spt0)) ≡ true → view s img ≡ view-through s img (s .spt0)
+  unfolding view unless table-read copy-read _>>=_
+  through-spt0 h = rw (k .long, k .grained, k .placed, h)
+
+  module _ (no0 : table-stands s (length img) (block img (s .spt0)) ≡ false) where
+    pub through-spt1 : table-stands s (length img) (block img (s .spt1)) ≡ true → view s img ≡ view-through s img (s .spt1)
+    unfolding view unless table-read copy-read _>>=_
+    through-spt1 h = rw (k .long, k .grained, k .placed, no0, h)
+
+    pub refused-without : table-stands s (length img) (block img (s .spt1)) ≡ false → view s img ≡ refused (no-table s img)
+    unfolding view unless table-read copy-read _>>=_
+    refused-without h = rw (k .long, k .grained, k .placed, no0, h)
+
+-- ---- the refusal where no copy stands: 51 where one of them begins with the magic, else 50
 
 module _ (s : Setting) (img : List ℕ) where
-  pub refused-1 : length-right (length img) ≡ false → view s img ≡ refused (numbered 1)
-  unfolding view unless
-  refused-1 h = rw h
-
-  module _ (long : length-right (length img) ≡ true) where
-    pub refused-2 : granule-right (s .granule) ≡ false → view s img ≡ refused (numbered 2)
-    unfolding view unless
-    refused-2 h = rw (long, h)
-
-    module _ (grained : granule-right (s .granule) ≡ true) where
-      pub refused-3 : addresses-right s (length img) ≡ false → view s img ≡ refused (numbered 3)
-      unfolding view unless
-      refused-3 h = rw (long, grained, h)
-
-      module _ (placed : addresses-right s (length img) ≡ true) where
-        pub through-spt0 : table-stands s (length img) (block img (s .spt0)) ≡ true
-            → view s img ≡ view-through s img (s .spt0)
-        unfolding view unless table-read copy-read _>>=_
-        through-spt0 h = rw (long, grained, placed, h)
-
-        module _ (no0 : table-stands s (length img) (block img (s .spt0)) ≡ false) where
-          pub through-spt1 : table-stands s (length img) (block img (s .spt1)) ≡ true
-              → view s img ≡ view-through s img (s .spt1)
-          unfolding view unless table-read copy-read _>>=_
-          through-spt1 h = rw (long, grained, placed, no0, h)
-
-          pub refused-without : table-stands s (length img) (block img (s .spt1)) ≡ false
-              → view s img ≡ refused (no-table s img)
-          unfolding view unless table-read copy-read _>>=_
-          refused-without h = rw (long, grained, placed, no0, h)
-
--- ---- the faults of the two table copies
-
-module _ (s : Setting) (img : List ℕ) where
-  pub faults-refused-1 : length-right (length img) ≡ false → table-faults s img ≡ refused (numbered 1)
-  unfolding table-faults unless
-  faults-refused-1 h = rw h
-
-  module _ (long : length-right (length img) ≡ true) where
-    pub faults-refused-2 : granule-right (s .granule) ≡ false → table-faults s img ≡ refused (numbered 2)
-    unfolding table-faults unless
-    faults-refused-2 h = rw (long, h)
-
-    module _ (grained : granule-right (s .granule) ≡ true) where
-      pub faults-refused-3 : addresses-right s (length img) ≡ false → table-faults s img ≡ refused (numbered 3)
-      unfolding table-faults unless
-      faults-refused-3 h = rw (long, grained, h)
-
-      pub faults-told : addresses-right s (length img) ≡ true
-          → table-faults s img
-          ≡ given (record {
-            fault0 = fault s (length img) (block img (s .spt0));
-            fault1 = fault s (length img) (block img (s .spt1));
-          })
-      unfolding table-faults unless
-      faults-told h = rw (long, grained, h)
-
-  -- ---- the refusal where no copy stands: 51 where one of them begins with the magic, else 50
-
   abbrev without : ℕ → Refusal
   without n =
       record {

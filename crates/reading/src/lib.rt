@@ -1,6 +1,6 @@
 // Reading a flash: where things are, the table read, the boot order, the slots. Nothing here stores into an image.
 mod numbers; // refusals 1 to 3
-mod copies; // refusals 50, 51 and 5
+mod followed; // refusals 50, 51 and 5
 mod order; // the boot order by two blocks, and refusal 13
 mod facts; // one slot by a table, and refusal 7
 
@@ -51,35 +51,21 @@ pub enum Known {
 pub fn view(image: &[u8], setting: Setting) -> Viewed
     ensures { λ r. ⌜ viewed r ≡ view setting (now (image .entry)) ⌝ }
 {
-    let len = image.len();
-    if !numbers::length_right(len) {
+    let due = numbers::due(setting, image.len());
+    if due != 0 {
         return Viewed::Refused(Refusal {
-            number: 1,
-            fault0: NO_FAULT,
-            fault1: NO_FAULT,
-        });
-    }
-    if !numbers::granule_right(setting.granule) {
-        return Viewed::Refused(Refusal {
-            number: 2,
-            fault0: NO_FAULT,
-            fault1: NO_FAULT,
-        });
-    }
-    if !numbers::addresses_right(setting, len) {
-        return Viewed::Refused(Refusal {
-            number: 3,
+            number: due,
             fault0: NO_FAULT,
             fault1: NO_FAULT,
         });
     }
     if table::table_stands(image, setting.spt0, setting) {
-        return copies::view_through(image, setting, setting.spt0);
+        return followed::view_through(image, setting, setting.spt0);
     }
     if table::table_stands(image, setting.spt1, setting) {
-        return copies::view_through(image, setting, setting.spt1);
+        return followed::view_through(image, setting, setting.spt1);
     }
-    Viewed::Refused(copies::no_table(image, setting))
+    Viewed::Refused(followed::no_table(image, setting))
 }
 
 // The first broken rule of each table copy, and the entry that breaks it: refused 1 to 3 only. A copy that stands has
@@ -87,24 +73,10 @@ pub fn view(image: &[u8], setting: Setting) -> Viewed
 pub fn table_faults(image: &[u8], setting: Setting) -> Faults
     ensures { λ r. ⌜ faulted r ≡ table-faults setting (now (image .entry)) ⌝ }
 {
-    let len = image.len();
-    if !numbers::length_right(len) {
+    let due = numbers::due(setting, image.len());
+    if due != 0 {
         return Faults::Refused(Refusal {
-            number: 1,
-            fault0: NO_FAULT,
-            fault1: NO_FAULT,
-        });
-    }
-    if !numbers::granule_right(setting.granule) {
-        return Faults::Refused(Refusal {
-            number: 2,
-            fault0: NO_FAULT,
-            fault1: NO_FAULT,
-        });
-    }
-    if !numbers::addresses_right(setting, len) {
-        return Faults::Refused(Refusal {
-            number: 3,
+            number: due,
             fault0: NO_FAULT,
             fault1: NO_FAULT,
         });

@@ -3,19 +3,36 @@ use rules::Setting;
 ghost use mathlib.Core.Path.{_≡_};
 ghost use Prim.Native.Nat.{_<_};
 ghost use Rattle.rules.specs.Numbers.{length-right, granule-right, address-right, addresses-right};
+ghost use Rattle.reading.specs.Inner.Due.{due};
 
 // The unit and the least length of an image, and the greatest.
 const BLOCK_SIZE: usize = fields::BLOCK_SIZE;
 
 const LENGTH_MAX: usize = 268435456;
 
-pub fn length_right(len: usize) -> bool
+// The first of refusals 1 to 3 that is due, or 0.
+pub fn due(setting: Setting, len: usize) -> u8
+    ensures { λ r. ⌜ r ≡ due setting len ⌝ }
+{
+    if !length_right(len) {
+        return 1;
+    }
+    if !granule_right(setting.granule) {
+        return 2;
+    }
+    if !addresses_right(setting, len) {
+        return 3;
+    }
+    0
+}
+
+fn length_right(len: usize) -> bool
     ensures { λ r. ⌜ r ≡ length-right len ⌝ }
 {
     (len % BLOCK_SIZE == 0) & (BLOCK_SIZE <= len) & (len <= LENGTH_MAX)
 }
 
-pub fn granule_right(granule: usize) -> bool
+fn granule_right(granule: usize) -> bool
     ensures { λ r. ⌜ r ≡ granule-right granule ⌝ }
 {
     (granule == 4096) | (granule == 32768) | (granule == 65536)
@@ -29,7 +46,7 @@ fn address_right(granule: usize, len: usize, at: usize) -> bool
     (at % granule == 0) & table::ends_by(at as u64, granule as u64, len as u64)
 }
 
-pub fn addresses_right(setting: Setting, len: usize) -> bool
+fn addresses_right(setting: Setting, len: usize) -> bool
     requires { ⌜ 0 < setting .granule ⌝ }
     ensures { λ r. ⌜ r ≡ addresses-right setting len ⌝ }
 {

@@ -5,7 +5,7 @@ use super::desk;
 use super::desk::Desk;
 use rules::Setting;
 use script::Change;
-ghost use Prim.Native.Nat.{_+_, _≤_};
+ghost use Prim.Native.Nat.{_+_, _≤_, _<_};
 ghost use lib.ListN.{length};
 
 pub const ERASED: u8 = 0xFF;
@@ -77,32 +77,26 @@ fn copy(desk: Desk, room: &mut [u8], from: usize, to: usize, n: usize) -> Desk {
     if length - n < to {
         return desk::error(desk);
     }
-    if to <= from {
-        copy_upward(room, from, to, n);
-    } else {
-        copy_downward(room, from, to, n);
-    }
+    copy_bytes(room, from, to, n);
     desk
 }
 
-// Lowest byte first, which reads each byte before it is stored to where the target is lower.
-fn copy_upward(room: &mut [u8], from: usize, to: usize, n: usize)
+fn copy_bytes(room: &mut [u8], from: usize, to: usize, n: usize)
     requires { ⌜ (from + n ≤ length (now room)) × (to + n ≤ length (now room)) ⌝ }
 {
     let mut i = 0;
     while i < n {
-        room[to + i] = room[from + i];
+        let k = turn(i, n, to <= from);
+        room[to + k] = room[from + k];
         i += 1;
     }
 }
 
-// Highest byte first, where the target is higher.
-fn copy_downward(room: &mut [u8], from: usize, to: usize, n: usize)
-    requires { ⌜ (from + n ≤ length (now room)) × (to + n ≤ length (now room)) ⌝ }
+// Which byte is copied after i others, so that each is read before it is stored to: the lowest first where the target
+// is lower, else the highest first.
+fn turn(i: usize, n: usize, lower: bool) -> usize
+    requires { ⌜ i < n ⌝ }
+    ensures { λ r. ⌜ r < n ⌝ }
 {
-    let mut i = n;
-    while 0 < i {
-        i -= 1;
-        room[to + i] = room[from + i];
-    }
+    if lower { i } else { n - 1 - i }
 }

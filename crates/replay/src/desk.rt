@@ -1,8 +1,6 @@
 // What a script works on, beside the image: the setting, the current job, and where in the script it is.
 use super::printing;
 use jobs::Job;
-use jobs::Kind;
-use jobs::Plan;
 use rules::Setting;
 
 // `length`: that of the image. `busy`: there is a current job. `line`: the number of the line. `used`: how many of its
@@ -17,29 +15,8 @@ pub struct Desk {
     pub ended: bool,
 }
 
-// A job of no steps, where there is none.
-fn no_job() -> Job {
-    Job {
-        plan: Plan {
-            len: 0,
-            granule: 0,
-            offset: 0,
-            first: Kind::Nothing,
-            at: 0,
-            second: Kind::Nothing,
-            after: 0,
-            count: 0,
-        },
-        done: 0,
-        first: [0; 4096],
-        second: [0; 4096],
-        places: [0; 1016],
-        value: [0; 8],
-    }
-}
-
 pub fn new_desk() -> Desk {
-    let job = no_job();
+    let job = blocks::made::no_job();
     Desk {
         length: 0,
         setting: Setting {

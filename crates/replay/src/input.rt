@@ -90,7 +90,10 @@ fn do_line(desk: Desk, room: &mut [u8], line: &[u8]) -> Desk {
             }
             desk::error(desk)
         }
-        Line::Command(command) => starts::start(desk, room, command, line),
+        Line::Command(command) => starts::start(desk, room, command, b""),
+        Line::Named(command) => {
+            starts::start_named(desk, room, command, script::last_word(line))
+        }
         Line::Steps(asked_steps) => steps::carry_out(desk, room, asked_steps, line),
         Line::Error => desk::error(desk),
     }

@@ -20,10 +20,10 @@ use Rattle.script.specs.Lines.{
   line-of,
 }
 use Rattle.script.specs.declared.Line.{Line}
-use Rattle.script.specs.declared.Line.the-variants.{Nothing, Change, Question, Command, Steps, Error}
+use Rattle.script.specs.declared.Line.the-variants.{Nothing, Change, Question, Command, Named, Steps, Error}
 use Rattle.script.specs.declared.Change.the-variants.{Image, Put}
 use Rattle.script.specs.declared.Question.the-variants.{Order, Listing}
-use Rattle.script.specs.declared.Command.the-variants.{Rename, RenameToNothing}
+use Rattle.commands.specs.declared.Command.the-variants.{Rename}
 use Rattle.script.specs.declared.Steps.the-variants.{Cut, Torn}
 
 abbrev pub lines : List String
@@ -60,8 +60,8 @@ pub lines-do : map (λ (line : String). line-of (ascii line)) lines
     ∷ Change (Image 65536 255)
     ∷ Change (Put 16)
     ∷ Error
+    ∷ Named (Rename (record { 0 = 3 }))
     ∷ Command (Rename (record { 0 = 3 }))
-    ∷ Command (RenameToNothing (record { 0 = 3 }))
     ∷ Error
     ∷ Steps (Cut 5 0)
     ∷ Error

@@ -7,15 +7,15 @@ use Prim.Native.String.{String}
 use lib.Dec.{eqb, leb}
 use Rattle.rules.specs.Lists.{same}
 use Rattle.rules.specs.declared.SlotNo.{SlotNo}
+use Rattle.commands.specs.declared.Command.the-variants.{Enable, Disable, Rename, Create, Delete, Repair}
 use Rattle.script.specs.Text.{ascii}
 use Rattle.script.specs.Words.{first-word, later-words}
 use Rattle.script.specs.Numbers.{numbers, numbers-before-bytes}
 use Rattle.script.specs.declared.numbers.Row.{Row}
 use Rattle.script.specs.declared.Line.{Line}
-use Rattle.script.specs.declared.Line.the-variants.{Nothing, Change, Question, Command, Steps, Error}
+use Rattle.script.specs.declared.Line.the-variants.{Nothing, Change, Question, Command, Named, Steps, Error}
 use Rattle.script.specs.declared.Change.the-variants.{Image, Length, Setting, Put, Copy}
 use Rattle.script.specs.declared.Question.the-variants.{Order, Listing, Slot, Peek, Sum, Dumps}
-use Rattle.script.specs.declared.Command.the-variants.{Enable, Disable, Rename, RenameToNothing, Create, CreateUnnamed, Delete, Repair}
 use Rattle.script.specs.declared.Steps.the-variants.{Run, Cut, Torn}
 
 -- ---- tests
@@ -72,10 +72,10 @@ module _ (verb : List ℕ) (row : Row) where
   command-forms hexed =
       (takes-slot verb (ascii "enable") row, Command (Enable (slot-of row)))
       ∷ (takes-slot verb (ascii "disable") row, Command (Disable (slot-of row)))
-      ∷ (takes-slot verb (ascii "rename") hexed, Command (Rename (slot-of hexed)))
-      ∷ (takes-slot verb (ascii "rename") row, Command (RenameToNothing (slot-of row)))
-      ∷ (takes-slot verb (ascii "create") hexed, Command (Create (hexed .first)))
-      ∷ (takes-slot verb (ascii "create") row, Command (CreateUnnamed (row .first)))
+      ∷ (takes-slot verb (ascii "rename") hexed, Named (Rename (slot-of hexed)))
+      ∷ (takes-slot verb (ascii "rename") row, Command (Rename (slot-of row)))
+      ∷ (takes-slot verb (ascii "create") hexed, Named (Create (hexed .first)))
+      ∷ (takes-slot verb (ascii "create") row, Command (Create (row .first)))
       ∷ (takes-slot verb (ascii "delete") row, Command (Delete (slot-of row)))
       ∷ (takes verb (ascii "repair") row 0, Command Repair)
       ∷ []

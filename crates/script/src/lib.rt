@@ -6,18 +6,21 @@ pub mod hex; // bytes as pairs of hexadecimal digits
 pub mod answers; // parts of an answer
 pub mod sum; // a sum of bytes
 
+use commands::Command;
 use rules::SlotNo;
 ghost use mathlib.Core.Path.{_≡_};
 ghost use Rattle.script.specs.Words.{last-word};
 ghost use Rattle.script.specs.Numbers.{value};
 ghost use Rattle.script.specs.Lines.{line-of};
 
-// What a line does. A number is as it is written; whether it suits the image is judged elsewhere.
+// What a line does. A number is as it is written; whether it suits the image is judged elsewhere. `Command`: with an
+// empty name, or of none. `Named`: with the name that the line's last word has as bytes.
 pub enum Line {
     Nothing,
     Change(Change),
     Question(Question),
     Command(Command),
+    Named(Command),
     Steps(Steps),
     Error,
 }
@@ -39,19 +42,6 @@ pub enum Question {
     Peek(usize, usize),
     Sum,
     Dumps(usize, usize, usize, usize),
-}
-
-// `enable`, `disable`, `rename` with the line's last word, `rename` with an empty name, `create` with a length and the
-// line's last word, `create` with an empty name, `delete`, `repair`.
-pub enum Command {
-    Enable(SlotNo),
-    Disable(SlotNo),
-    Rename(SlotNo),
-    RenameToNothing(SlotNo),
-    Create(u32),
-    CreateUnnamed(u32),
-    Delete(SlotNo),
-    Repair,
 }
 
 // `run`, `cut`, `torn` with the number of ranges, which are the line's last words.

@@ -1,10 +1,10 @@
 // The forms of a line. A form that fits takes the place of the line that was found by the forms before it.
 use super::Change;
-use super::Command;
 use super::Line;
 use super::Question;
 use super::Steps;
 use super::numbers::Row;
+use commands::Command;
 use rules::SlotNo;
 ghost use mathlib.Core.Path.{_≡_};
 ghost use mathlib.Core.Bool.{cond};
@@ -142,22 +142,22 @@ pub fn command_line(verb: &[u8], row: Row, hexed: Row, otherwise: Line) -> Line
     );
     line = form(
         takes_slot(verb, b"rename", hexed),
-        Line::Command(Command::Rename(named)),
+        Line::Named(Command::Rename(named)),
         line,
     );
     line = form(
         takes_slot(verb, b"rename", row),
-        Line::Command(Command::RenameToNothing(slot)),
+        Line::Command(Command::Rename(slot)),
         line,
     );
     line = form(
         takes_slot(verb, b"create", hexed),
-        Line::Command(Command::Create(named.0)),
+        Line::Named(Command::Create(named.0)),
         line,
     );
     line = form(
         takes_slot(verb, b"create", row),
-        Line::Command(Command::CreateUnnamed(slot.0)),
+        Line::Command(Command::Create(slot.0)),
         line,
     );
     line = form(

@@ -4,12 +4,6 @@ use borrow.Author.Needs.{needs}
 use Rattle.bench.proofs.run_begun.Statement.{statement}
 use Rattle.bench.proofs.run_begun.Tie as tie
 
-enum-told : tie.Need-enum-told
-enum-told c = search needs
-
-returns : tie.Need-returns
-returns c = start-refused (c .before .before .before .before .before .args .begun) _ _ (c .before .answer .given .1)
-
 returns-2 : tie.Need-returns-2
 returns-2 c = start-run (c .before .before .before .before .before .before .before .before .before .args .begun) _ _ _ _ (c .before .before .before .before .before .enum-told .given .1) (c .before .before .before .remaining .ensures) (c .before .before .run-job .ensures)
 
@@ -18,9 +12,9 @@ run-begun-spec =
     tie.close
     (tie.spec
     (λ c. search needs)
-    enum-told
+    (λ c. search needs)
     (λ c κs. search needs)
     (λ c κs. search needs)
-    returns
+    (λ c. start-refused (c .before .before .before .before .before .args .begun) _ _ (c .before .answer .given .1))
     (λ c. search needs)
     returns-2)

@@ -6,10 +6,6 @@ use Rattle.jobs.specs.Jobs.{ran-by}
 use Rattle.bench.proofs.run_job.Statement.{statement}
 use Rattle.bench.proofs.run_job.Tie as tie
 
-returns : tie.Need-returns
-unfolding done-by left-by
-returns c = (rw (c .if1 .taken), rw (c .if1 .taken))
-
 returns-2 : tie.Need-returns-2
 unfolding told ran-by
 returns-2 c = ran-all (c .before .before .before .before .before .before .before .before .before .args .left) _ _ _ (c .before .before .before .before .before .run .result) _ (c .before .before .before .before .before .run .ensures) (c .before .before .before .before .before .before .before .if1 .left) (c .before .did .given .1)
@@ -22,7 +18,7 @@ pub run-job-spec : {M : Type 1} → statement M
 run-job-spec =
     tie.close
     (tie.spec
-    returns
+    (λ c. unfold done-by left-by in (rw (c .if1 .taken), rw (c .if1 .taken)))
     (λ c κs. search needs)
     (λ c. search needs)
     (λ c. search needs)

@@ -1,12 +1,10 @@
 -- `booked` makes each command's change. Assumes nothing.
 use Rattle.commands.specs.Begins.{command-of}
+use Rattle.book.specs.Kept.{kept}
 use Rattle.book.proofs.Changes.{enabled, disabled, with-name, with-slot, without-slot, repaired}
 use borrow.Author.Needs.{needs}
 use Rattle.book.proofs.booked.Statement.{statement}
 use Rattle.book.proofs.booked.Tie as tie
-
-enum-told : tie.Need-enum-told
-enum-told c = search needs
 
 returns : tie.Need-returns
 unfolding command-of
@@ -18,13 +16,13 @@ returns c =
     (enabled (a .setting) (a .image .now) (a .book) _ (made .with-first .result) (made .with-first .ensures))
 
 returns-2 : tie.Need-returns-2
-unfolding command-of
+unfolding command-of kept
 returns-2 c =
     let made = c .before in
     let asked = made .before .before in
     let a = asked .before .before .before .before .before .args in
     rw (c .with-order2 .ensures, asked .command2 .given .1)
-    (disabled (a .setting) (a .image .now) (a .book) _ (made .without .result) (made .without .ensures))
+    (disabled (a .setting) (a .image .now) (a .book) _ (made .changed .result) (made .changed .ensures))
 
 returns-3 : tie.Need-returns-3
 unfolding command-of
@@ -76,7 +74,7 @@ booked-spec =
     (λ c κs. search needs)
     (λ c. search needs)
     (λ c κs. search needs)
-    enum-told
+    (λ c. search needs)
     returns
     returns-2
     returns-3

@@ -2,19 +2,12 @@
 use mathlib.Core.Path.{sym}
 use borrow.Author.Needs.{needs}
 use Rattle.walks.proofs.Joined.{failed, passed}
-use Rattle.book.specs.Kept.{reading-of, has-slot, deleted}
+use Rattle.book.specs.Kept.{reading-of, has-slot, kept, deleted}
 use Rattle.book.proofs.deleted.Statement.{statement}
 use Rattle.book.proofs.deleted.Tie as tie
 
-returns : tie.Need-returns
-unfolding deleted reading-of
-returns c = sym (rw (failed (c .before .has-slot .ensures) (c .if1 .taken)))
-
-without-slot-requires : tie.Need-without-slot-requires
-without-slot-requires c κs = passed (c .before .has-slot .ensures) (c .if1 .left)
-
 returns-2 : tie.Need-returns-2
-unfolding deleted reading-of
+unfolding deleted reading-of kept
 returns-2 c =
     let at-order = c .before in
     let at-table = at-order .before in
@@ -22,7 +15,7 @@ returns-2 c =
     rw (
       c .with-order .ensures,
       passed (at-if .before .has-slot .ensures) (at-if .if1 .left),
-      at-order .after-delete .ensures,
+      at-order .changed .ensures,
       at-table .without-slot .ensures,
     )
 
@@ -31,8 +24,8 @@ deleted-spec =
     tie.close
     (tie.spec
     (λ c κs. search needs)
-    returns
-    without-slot-requires
+    (λ c. unfold deleted reading-of in sym (rw (failed (c .before .has-slot .ensures) (c .if1 .taken))))
+    (λ c κs. passed (c .before .has-slot .ensures) (c .if1 .left))
     (λ c κs. search needs)
     (λ c κs. search needs)
     returns-2)

@@ -6,9 +6,6 @@ use borrow.Author.Needs.{needs}
 use Rattle.book.proofs.pairs_agree.Statement.{statement}
 use Rattle.book.proofs.pairs_agree.Tie as tie
 
-enum-told : tie.Need-enum-told
-enum-told c = search needs
-
 same-blocks-requires : tie.Need-same-blocks-requires
 same-blocks-requires c κs =
     let l = opened _ _ (c .before .before .before .view .ensures) (c .before .seen .given .1) in
@@ -18,9 +15,6 @@ same-blocks-requires-2 : tie.Need-same-blocks-requires-2
 same-blocks-requires-2 c κs =
     let l = opened _ _ (c .before .before .before .before .view .ensures) (c .before .before .seen .given .1) in
     (l .cpb0-inside, l .cpb1-inside)
-
-returns : tie.Need-returns
-returns c = none-agree _ _ _ (was-refused _ _ (c .before .before .view .ensures) (c .enum-told .given .1))
 
 returns-2 : tie.Need-returns-2
 unfolding copies-equal
@@ -34,9 +28,9 @@ pairs-agree-spec =
     tie.close
     (tie.spec
     (λ c κs. search needs)
-    enum-told
+    (λ c. search needs)
     (λ c. search needs)
     same-blocks-requires
     same-blocks-requires-2
-    returns
+    (λ c. none-agree _ _ _ (was-refused _ _ (c .before .before .view .ensures) (c .enum-told .given .1)))
     returns-2)

@@ -4,10 +4,6 @@ use borrow.Author.Needs.{needs}
 use Rattle.book.proofs.same_book.Statement.{statement}
 use Rattle.book.proofs.same_book.Tie as tie
 
-returns : tie.Need-returns
-unfolding reading-of same-reading
-returns c = rw (c .before .same-bytes .ensures, c .same-order .ensures)
-
 pub same-book-spec : {M : Type 1} → statement M
 same-book-spec =
     tie.close
@@ -16,4 +12,4 @@ same-book-spec =
     (λ c. search needs)
     (λ c κs. search needs)
     (λ c κs. search needs)
-    returns)
+    (λ c. unfold reading-of same-reading in rw (c .before .same-bytes .ensures, c .same-order .ensures)))

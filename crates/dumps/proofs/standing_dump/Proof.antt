@@ -5,10 +5,6 @@ use Rattle.rules.specs.Copies.{standing-dump}
 use Rattle.dumps.proofs.standing_dump.Statement.{statement}
 use Rattle.dumps.proofs.standing_dump.Tie as tie
 
-returns : tie.Need-returns
-unfolding standing-dump
-returns c = rw (sym (c .before .dump-stands .ensures) ∙ c .if1 .taken)
-
 returns-2 : tie.Need-returns-2
 unfolding standing-dump
 returns-2 c =
@@ -33,7 +29,7 @@ standing-dump-spec =
     tie.close
     (tie.spec
     (λ c κs. search needs)
-    returns
+    (λ c. unfold standing-dump in rw (sym (c .before .dump-stands .ensures) ∙ c .if1 .taken))
     (λ c κs. search needs)
     returns-2
     (λ c. search needs)

@@ -6,12 +6,6 @@ use borrow.Author.Needs.{needs}
 use Rattle.power_cuts.proofs.try_command.Statement.{statement}
 use Rattle.power_cuts.proofs.try_command.Tie as tie
 
-slice-aggregate-try-start : tie.Need-slice-aggregate-try-start
-slice-aggregate-try-start c = sym (length-take-le _ _ (omega (arith, c .before .before .image-buffer .ensures)))
-
-slice-aggregate-try-start-2 : tie.Need-slice-aggregate-try-start-2
-slice-aggregate-try-start-2 c = sym (length-take-le _ _ (omega (arith, c .before .before .image-buffer2 .ensures)))
-
 pub try-command-spec : {M : Type 1} → statement M
 try-command-spec =
     tie.close
@@ -20,8 +14,8 @@ try-command-spec =
     (λ c κs. search needs)
     (λ c κs. search needs)
     (λ c. search needs)
-    slice-aggregate-try-start
+    (λ c. sym (length-take-le _ _ (omega (arith, c .before .before .image-buffer .ensures))))
     (λ c. search needs)
-    slice-aggregate-try-start-2
+    (λ c. sym (length-take-le _ _ (omega (arith, c .before .before .image-buffer2 .ensures))))
     (λ c κs. search needs)
     (λ c. search needs))

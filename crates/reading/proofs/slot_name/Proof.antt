@@ -11,9 +11,6 @@ use Rattle.reading.proofs.Opening.{no-table, table-of-view, opened, has
 use Rattle.reading.proofs.slot_name.Statement.{statement}
 use Rattle.reading.proofs.slot_name.Tie as tie
 
-enum-told : tie.Need-enum-told
-enum-told c = search needs
-
 block-at-requires : tie.Need-block-at-requires
 block-at-requires c κs =
     let called = c .before .before .before in
@@ -51,7 +48,7 @@ slot-name-spec =
     tie.close
     (tie.spec
     (λ c κs. search needs)
-    enum-told
+    (λ c. search needs)
     (λ c. search needs)
     (λ c. search needs)
     block-at-requires

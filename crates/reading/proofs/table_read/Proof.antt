@@ -5,9 +5,6 @@ use Rattle.reading.proofs.Opening.{no-table, table-of-view, opened}
 use Rattle.reading.proofs.table_read.Statement.{statement}
 use Rattle.reading.proofs.table_read.Tie as tie
 
-enum-told : tie.Need-enum-told
-enum-told c = search needs
-
 block-at-requires : tie.Need-block-at-requires
 block-at-requires c κs =
     let called = c .before .before .before in
@@ -29,7 +26,7 @@ table-read-spec =
     tie.close
     (tie.spec
     (λ c κs. search needs)
-    enum-told
+    (λ c. search needs)
     (λ c. search needs)
     (λ c. search needs)
     block-at-requires

@@ -6,9 +6,6 @@ use borrow.Author.Needs.{needs}
 use Rattle.report.proofs.put_facts.Statement.{statement}
 use Rattle.report.proofs.put_facts.Tie as tie
 
-enum-told : tie.Need-enum-told
-enum-told c = search needs
-
 returns : tie.Need-returns
 unfolding facts-text told known
 returns c = rw (← c .before .before .before .before .before .before .slot-facts .ensures, c .before .before .before .before .enum-told .given .1) (c .before .before .put-byte .ensures)
@@ -34,7 +31,7 @@ put-facts-spec =
     tie.close
     (tie.spec
     (λ c κs. search needs)
-    enum-told
+    (λ c. search needs)
     (λ c κs. search needs)
     (λ c. search needs)
     (λ c κs. search needs)

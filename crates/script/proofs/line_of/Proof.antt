@@ -9,15 +9,6 @@ use borrow.Author.Needs.{needs}
 use Rattle.script.proofs.line_of.Statement.{statement}
 use Rattle.script.proofs.line_of.Tie as tie
 
-returns : tie.Need-returns
-returns c = empty-line (c .before .before .args .line .now) (c .if1 .taken)
-
-returns-2 : tie.Need-returns-2
-returns-2 c = remark (c .before .before .before .before .args .line .now) (omega arith) (c .if2 .taken)
-
-slice-aggregate-verb : tie.Need-slice-aggregate-verb
-slice-aggregate-verb c = sym (length-take-le _ _ (c .before .length-before .ensures .1))
-
 returns-3 : tie.Need-returns-3
 unfolding said
 returns-3 c =
@@ -40,11 +31,11 @@ pub line-of-spec : {M : Type 1} → statement M
 line-of-spec =
     tie.close
     (tie.spec
-    returns
+    (λ c. empty-line (c .before .before .args .line .now) (c .if1 .taken))
     (λ c. search needs)
-    returns-2
+    (λ c. remark (c .before .before .before .before .args .line .now) (omega arith) (c .if2 .taken))
     (λ c κs. search needs)
-    slice-aggregate-verb
+    (λ c. sym (length-take-le _ _ (c .before .length-before .ensures .1)))
     (λ c κs. search needs)
     (λ c κs. search needs)
     (λ c κs. search needs)

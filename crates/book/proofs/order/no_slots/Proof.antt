@@ -4,9 +4,5 @@ use Rattle.book.specs.Kept.{no-slots}
 use Rattle.book.proofs.order.no_slots.Statement.{statement}
 use Rattle.book.proofs.order.no_slots.Tie as tie
 
-returns : tie.Need-returns
-unfolding no-slots
-returns c = refl
-
 pub no-slots-spec : {M : Type 1} → statement M
-no-slots-spec = tie.close (tie.spec returns)
+no-slots-spec = tie.close (tie.spec (λ c. unfold no-slots in refl))

@@ -16,14 +16,8 @@ whole-a s = search needs
 whole-b : (s : tie.Start) → length (s .args .b .row) ≡ room
 whole-b s = search needs
 
-array-share-prefix-one : tie.Need-array-share-prefix-one
-array-share-prefix-one c = omega (arith, whole-a (c .before .before .before .before), c .before .meant .ensures)
-
 slice-aggregate-same-slots : tie.Need-slice-aggregate-same-slots
 slice-aggregate-same-slots c = sym (length-take-le _ _ (omega (arith, whole-a (c .before .before .before .before .before), c .before .before .meant .ensures)))
-
-array-share-prefix-other : tie.Need-array-share-prefix-other
-array-share-prefix-other c = omega (arith, whole-b (c .before .before .before .before .before), c .before .meant2 .ensures)
 
 slice-aggregate-same-slots-2 : tie.Need-slice-aggregate-same-slots-2
 slice-aggregate-same-slots-2 c = sym (length-take-le _ _ (omega (arith, whole-b (c .before .before .before .before .before .before), c .before .before .meant2 .ensures)))
@@ -42,9 +36,9 @@ same-order-spec =
     (tie.spec
     (λ c κs. search needs)
     (λ c κs. search needs)
-    array-share-prefix-one
+    (λ c. omega (arith, whole-a (c .before .before .before .before), c .before .meant .ensures))
     slice-aggregate-same-slots
-    array-share-prefix-other
+    (λ c. omega (arith, whole-b (c .before .before .before .before .before), c .before .meant2 .ensures))
     slice-aggregate-same-slots-2
     (λ c κs. search needs)
     returns)

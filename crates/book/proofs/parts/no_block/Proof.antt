@@ -4,9 +4,5 @@ use Rattle.book.specs.Kept.{no-block}
 use Rattle.book.proofs.parts.no_block.Statement.{statement}
 use Rattle.book.proofs.parts.no_block.Tie as tie
 
-returns : tie.Need-returns
-unfolding no-block
-returns c = refl
-
 pub no-block-spec : {M : Type 1} → statement M
-no-block-spec = tie.close (tie.spec returns)
+no-block-spec = tie.close (tie.spec (λ c. unfold no-block in refl))

@@ -1,62 +1,61 @@
 -- `renamed` is the table with the new name, where it has the slot. Assumes nothing.
-use mathlib.Core.Path.{sym, _∙_}
+use mathlib.Core.Path.{_≡_, sym, ap, _∙_}
+use mathlib.Core.Bool.{true}
+use lib.ListN.{length}
+use Prim.Native.Nat.{_<_}
 use native.Mathlib.Omega.{arith}
-use Rattle.book.proofs.Blocks.{too-many, no-slot, row-below, named-already, named-now}
+use Rattle.walks.specs.Entries.{most-entries}
+use Rattle.walks.proofs.Joined.{failed, passed}
+use Rattle.book.specs.Kept.{has-slot}
+use Rattle.book.proofs.Blocks.{few-entries, row-below, named-already, named-now}
 use borrow.Author.Needs.{needs}
 use Rattle.book.proofs.parts.renamed.Statement.{statement}
 use Rattle.book.proofs.parts.renamed.Tie as tie
 
-returns : tie.Need-returns
-returns c = sym (too-many _ _ _ (c .before .entry-count .ensures) (c .if1 .taken))
+-- past the first test the table has the slot, and its entry is one of those that there is room for
+has : (c : tie.Else1) → has-slot (c .before .before .args .t1) (c .before .before .args .slot .0) ≡ true
+has c = passed (c .before .has-slot .ensures) (c .if1 .left)
 
-returns-2 : tie.Need-returns-2
-returns-2 c = sym (no-slot _ _ _ (c .before .before .before .before .before .entry-count .ensures) (omega (arith, c .before .before .count-slots .ensures .0)))
+counted : (c : tie.After-entry-of) → c .entry-of .result .0 < most-entries
+counted c = omega (arith, row-below _ _ (has (c .before)) (c .entry-of .ensures), few-entries _ _ (has (c .before)))
 
 has-name-requires : tie.Need-has-name-requires
-has-name-requires c κs =
-    let there = rw (c .before .before .before .before .before .before .before .count-slots .ensures .0) at (c .before .before .before .before .before .if2 .left) in
-    let below = row-below _ _ _ (c .before .before .before .before .before .before .before .before .before .before .entry-count .ensures) (c .before .before .before .before .before .before .before .before .before .if1 .left) there _ (c .before .before .before .slot-row .ensures .0) in
-    (search needs, omega (arith, below, c .before .before .before .before .before .before .before .before .before .if1 .left))
+has-name-requires c κs = (search needs, counted (c .before .before .before))
+
+returns-2 : tie.Need-returns-2
+returns-2 c =
+    let at = c .before .before .before .before .before in
+    named-already _ _ (has (at .before)) (at .entry-of .ensures)
+    (rw (c .before .before .before .before .new-name .ensures) at (sym (c .before .has-name .ensures) ∙ c .if2 .taken))
+
+with-name-requires : tie.Need-with-name-requires
+with-name-requires c κs =
+    let named = c .before .before .before .before .before .before in
+    ((search needs, counted (named .before)), omega (arith, ap length (named .new-name .ensures)))
 
 returns-3 : tie.Need-returns-3
 returns-3 c =
-    let there = rw (c .before .before .before .before .before .before .before .before .before .count-slots .ensures .0) at (c .before .before .before .before .before .before .before .if2 .left) in
-    let has = rw (c .before .before .before .before .padded-name .ensures) at (sym (c .before .has-name .ensures) ∙ c .if3 .taken) in
-    sym (named-already _ _ _ (c .before .before .before .before .before .before .before .before .before .before .before .before .entry-count .ensures) (c .before .before .before .before .before .before .before .before .before .before .before .if1 .left) there _ (c .before .before .before .before .before .slot-row .ensures .0) has)
-
-entry-offset-requires : tie.Need-entry-offset-requires
-entry-offset-requires c κs =
-    let there = rw (c .before .before .before .before .before .before .before .before .before .before .count-slots .ensures .0) at (c .before .before .before .before .before .before .before .before .if2 .left) in
-    let below = row-below _ _ _ (c .before .before .before .before .before .before .before .before .before .before .before .before .before .entry-count .ensures) (c .before .before .before .before .before .before .before .before .before .before .before .before .if1 .left) there _ (c .before .before .before .before .before .before .slot-row .ensures .0) in
-    omega (arith, below, c .before .before .before .before .before .before .before .before .before .before .before .before .if1 .left)
-
-returns-4 : tie.Need-returns-4
-returns-4 c =
-    let there = rw (c .before .before .before .before .before .before .before .before .before .before .before .before .before .before .count-slots .ensures .0) at (c .before .before .before .before .before .before .before .before .before .before .before .before .if2 .left) in
-    let has-not = rw (c .before .before .before .before .before .before .before .before .before .padded-name .ensures) at (sym (c .before .before .before .before .before .before .has-name .ensures) ∙ c .before .before .before .before .before .if3 .left) in
-    let put = rw (c .before .before .before .entry-offset .ensures, c .before .before .before .before .before .before .before .before .before .padded-name .ensures) at (c .before .put-bytes .ensures) in
-    sym (named-now _ _ _ (c .before .before .before .before .before .before .before .before .before .before .before .before .before .before .before .before .before .entry-count .ensures) (c .before .before .before .before .before .before .before .before .before .before .before .before .before .before .before .before .if1 .left) there _ (c .before .before .before .before .before .before .before .before .before .before .slot-row .ensures .0) has-not (search needs) put)
+    let past = c .before .before .before in
+    let named = past .before .before .before .before in
+    let at = named .before in
+    c .with-name .ensures
+    ∙ rw (named .new-name .ensures)
+    (named-now _ _ (has (at .before)) (at .entry-of .ensures)
+    (rw (named .new-name .ensures) at (sym (past .before .has-name .ensures) ∙ past .if2 .left)))
 
 pub renamed-spec : {M : Type 1} → statement M
 renamed-spec =
     tie.close
     (tie.spec
-    (λ c. search needs)
     (λ c κs. search needs)
-    returns
-    (λ c. search needs)
-    (λ c κs. search needs)
-    (λ c. search needs)
-    returns-2
-    (λ c. search needs)
-    (λ c κs. search needs)
+    (λ c. sym (rw (failed (c .before .has-slot .ensures) (c .if1 .taken))))
+    (λ c κs. has c)
     (λ c κs. search needs)
     (λ c. search needs)
     (λ c. search needs)
     has-name-requires
-    returns-3
+    returns-2
     (λ c. search needs)
-    entry-offset-requires
     (λ c. search needs)
-    (λ c κs. search needs)
-    returns-4)
+    with-name-requires
+    returns-3)

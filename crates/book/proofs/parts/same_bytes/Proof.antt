@@ -4,8 +4,5 @@ use borrow.Author.Needs.{needs}
 use Rattle.book.proofs.parts.same_bytes.Statement.{statement}
 use Rattle.book.proofs.parts.same_bytes.Tie as tie
 
-returns : tie.Need-returns
-returns c = same-by _ _ _ (c .same .ensures)
-
 pub same-bytes-spec : {M : Type 1} → statement M
-same-bytes-spec = tie.close (tie.spec (λ c κs. search needs) returns)
+same-bytes-spec = tie.close (tie.spec (λ c κs. search needs) (λ c. same-by _ _ _ (c .same .ensures)))

@@ -19,9 +19,6 @@ where-blocks-are c =
     let a = at .before .before .args in
     opened (a .setting) (a .image .now) (at .view .ensures) (c .before .seen .given .1)
 
-enum-told : tie.Need-enum-told
-enum-told c = search needs
-
 block-at-requires : tie.Need-block-at-requires
 block-at-requires c κs =
     where-blocks-are c .table-inside
@@ -91,7 +88,7 @@ start-for-spec =
     tie.close
     (tie.spec
     (λ c κs. search needs)
-    enum-told
+    (λ c. search needs)
     (λ c. search needs)
     block-at-requires
     block-at-requires-2

@@ -7,9 +7,6 @@ use Rattle.inspect.proofs.EntryNames.{no-entry-name}
 use Rattle.inspect.proofs.entry.entry_name.Statement.{statement}
 use Rattle.inspect.proofs.entry.entry_name.Tie as tie
 
-enum-told : tie.Need-enum-told
-enum-told c = search needs
-
 block-at-requires : tie.Need-block-at-requires
 block-at-requires c κs =
     let called = c .before .before .before in
@@ -47,7 +44,7 @@ entry-name-spec =
     tie.close
     (tie.spec
     (λ c κs. search needs)
-    enum-told
+    (λ c. search needs)
     (λ c. search needs)
     (λ c. search needs)
     block-at-requires

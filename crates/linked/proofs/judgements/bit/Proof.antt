@@ -3,13 +3,5 @@ use Rattle.linked.specs.Inspected.{bit}
 use Rattle.linked.proofs.judgements.bit.Statement.{statement}
 use Rattle.linked.proofs.judgements.bit.Tie as tie
 
-returns : tie.Need-returns
-unfolding bit
-returns c = rw (c .if1 .taken)
-
-returns-2 : tie.Need-returns-2
-unfolding bit
-returns-2 c = rw (c .if1 .left)
-
 pub bit-spec : {M : Type 1} → statement M
-bit-spec = tie.close (tie.spec returns returns-2)
+bit-spec = tie.close (tie.spec (λ c. unfold bit in rw (c .if1 .taken)) (λ c. unfold bit in rw (c .if1 .left)))

@@ -25,19 +25,6 @@ counted c =
     let a = c .before .before .before .before .args in
     omega (arith, row-counted (a .n) (a .t .now) (a .slot .0) (c .slot-row .result .0) (there c) (c .slot-row .ensures .0))
 
-returns : tie.Need-returns
-unfolding known unless
-returns c = rw (failed (c .before .slot-there .ensures) (c .if1 .taken))
-
-entry-start-requires : tie.Need-entry-start-requires
-entry-start-requires c κs = (c .before .before .before .before .pre .whole, counted c)
-
-entry-size-requires : tie.Need-entry-size-requires
-entry-size-requires c κs = (c .before .before .before .before .before .pre .whole, counted (c .before))
-
-entry-flags-requires : tie.Need-entry-flags-requires
-entry-flags-requires c κs = (c .before .before .before .before .before .before .pre .whole, counted (c .before .before))
-
 returns-2 : tie.Need-returns-2
 unfolding known unless
 returns-2 c =
@@ -56,9 +43,9 @@ facts-in-spec =
     tie.close
     (tie.spec
     (λ c κs. search needs)
-    returns
+    (λ c. unfold known unless in rw (failed (c .before .slot-there .ensures) (c .if1 .taken)))
     (λ c κs. search needs)
-    entry-start-requires
-    entry-size-requires
-    entry-flags-requires
+    (λ c κs. (c .before .before .before .before .pre .whole, counted c))
+    (λ c κs. (c .before .before .before .before .before .pre .whole, counted (c .before)))
+    (λ c κs. (c .before .before .before .before .before .before .pre .whole, counted (c .before .before)))
     returns-2)

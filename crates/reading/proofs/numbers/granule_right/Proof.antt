@@ -4,9 +4,5 @@ use Rattle.rules.specs.Numbers.{granule-right}
 use Rattle.reading.proofs.numbers.granule_right.Statement.{statement}
 use Rattle.reading.proofs.numbers.granule_right.Tie as tie
 
-returns : tie.Need-returns
-unfolding granule-right
-returns c = refl
-
 pub granule-right-spec : {M : Type 1} → statement M
-granule-right-spec = tie.close (tie.spec returns)
+granule-right-spec = tie.close (tie.spec (λ c. unfold granule-right in refl))

@@ -5,9 +5,5 @@ use Rattle.rules.specs.Numbers.{length-right}
 use Rattle.reading.proofs.numbers.length_right.Statement.{statement}
 use Rattle.reading.proofs.numbers.length_right.Tie as tie
 
-returns : tie.Need-returns
-unfolding length-right multiple
-returns c = refl
-
 pub length-right-spec : {M : Type 1} → statement M
-length-right-spec = tie.close (tie.spec returns)
+length-right-spec = tie.close (tie.spec (λ c. unfold length-right multiple in refl))

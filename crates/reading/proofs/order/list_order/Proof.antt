@@ -25,9 +25,6 @@ has c =
       record { block = start .pre .1; places = c .places-of .ensures },
     )
 
-has-room-requires : tie.Need-has-room-requires
-has-room-requires c κs = has c
-
 returns : tie.Need-returns
 unfolding order-in unless listed count-of row-after _>>=_
 returns c =
@@ -56,7 +53,7 @@ list-order-spec =
     (tie.spec
     (λ c κs. search needs)
     (λ c κs. search needs)
-    has-room-requires
+    (λ c κs. has c)
     returns
     write-order-requires
     (λ c. search needs)

@@ -6,10 +6,6 @@ use borrow.Author.Needs.{needs}
 use Rattle.report.proofs.dead.put_dead.Statement.{statement}
 use Rattle.report.proofs.dead.put_dead.Tie as tie
 
-returns : tie.Need-returns
-unfolding dead-part
-returns c = rw (failed (c .before .any-dead .ensures) (c .if1 .taken)) (put-nothing _ _)
-
 returns-2 : tie.Need-returns-2
 unfolding dead-part places-header
 returns-2 c =
@@ -24,7 +20,7 @@ put-dead-spec =
     tie.close
     (tie.spec
     (λ c κs. search needs)
-    returns
+    (λ c. unfold dead-part in rw (failed (c .before .any-dead .ensures) (c .if1 .taken)) (put-nothing _ _))
     (λ c. search needs)
     (λ c κs. search needs)
     (λ c κs. search needs)

@@ -5,20 +5,9 @@ use borrow.Author.Needs.{needs}
 use Rattle.report.proofs.dead.put_kind.Statement.{statement}
 use Rattle.report.proofs.dead.put_kind.Tie as tie
 
-enum-told : tie.Need-enum-told
-enum-told c = search needs
-
-returns : tie.Need-returns
-unfolding kind-word
-returns c = rw (c .enum-told .given .1) (put-nothing _ _)
-
 returns-2 : tie.Need-returns-2
 unfolding kind-word
 returns-2 c = rw (c .before .before .before .before .before .enum-told2 .given .1) (c .before .before .put-bytes .ensures)
-
-returns-3 : tie.Need-returns-3
-unfolding kind-word
-returns-3 c = rw (c .enum-told3 .given .1) (put-nothing _ _)
 
 returns-4 : tie.Need-returns-4
 unfolding kind-word
@@ -32,21 +21,21 @@ pub put-kind-spec : {M : Type 1} → statement M
 put-kind-spec =
     tie.close
     (tie.spec
-    enum-told
-    (λ c. search needs)
-    (λ c. search needs)
-    (λ c κs. search needs)
     (λ c. search needs)
     (λ c. search needs)
     (λ c. search needs)
     (λ c κs. search needs)
     (λ c. search needs)
     (λ c. search needs)
+    (λ c. search needs)
     (λ c κs. search needs)
-    returns
+    (λ c. search needs)
+    (λ c. search needs)
+    (λ c κs. search needs)
+    (λ c. unfold kind-word in rw (c .enum-told .given .1) (put-nothing _ _))
     (λ c. search needs)
     returns-2
-    returns-3
+    (λ c. unfold kind-word in rw (c .enum-told3 .given .1) (put-nothing _ _))
     (λ c. search needs)
     returns-4
     (λ c. search needs)

@@ -7,10 +7,6 @@ use borrow.Author.Needs.{needs}
 use Rattle.report.proofs.dead.put_line.Statement.{statement}
 use Rattle.report.proofs.dead.put_line.Tie as tie
 
-returns : tie.Need-returns
-unfolding place-line
-returns c = rw (failed (c .before .is-dead .ensures) (c .if1 .taken)) (put-nothing _ _)
-
 returns-2 : tie.Need-returns-2
 unfolding place-line
 returns-2 c =
@@ -34,7 +30,7 @@ put-line-spec =
     tie.close
     (tie.spec
     (λ c κs. search needs)
-    returns
+    (λ c. unfold place-line in rw (failed (c .before .is-dead .ensures) (c .if1 .taken)) (put-nothing _ _))
     (λ c κs. search needs)
     (λ c κs. search needs)
     (λ c κs. search needs)

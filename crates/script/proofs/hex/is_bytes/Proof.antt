@@ -4,9 +4,5 @@ use borrow.Author.Needs.{needs}
 use Rattle.script.proofs.hex.is_bytes.Statement.{statement}
 use Rattle.script.proofs.hex.is_bytes.Tie as tie
 
-returns : tie.Need-returns
-unfolding is-bytes
-returns c = rw (c .all-digits .ensures)
-
 pub is-bytes-spec : {M : Type 1} → statement M
-is-bytes-spec = tie.close (tie.spec (λ c κs. search needs) returns)
+is-bytes-spec = tie.close (tie.spec (λ c κs. search needs) (λ c. unfold is-bytes in rw (c .all-digits .ensures)))

@@ -1,8 +1,8 @@
 -- `command_line` follows the forms from the last to the first. Assumes nothing.
+use Rattle.commands.specs.declared.Command.the-variants.{Enable, Disable, Rename, Create, Delete}
 use Rattle.script.specs.Text.{ascii}
 use Rattle.script.specs.Lines.{by-forms, command-forms}
-use Rattle.script.specs.declared.Line.the-variants.{Command}
-use Rattle.script.specs.declared.Command.the-variants.{Enable, Disable, Rename, RenameToNothing, Create, CreateUnnamed, Delete}
+use Rattle.script.specs.declared.Line.the-variants.{Command, Named}
 use Rattle.script.proofs.Forms.{slot-kept}
 use borrow.Author.Needs.{needs}
 use Rattle.script.proofs.lines.command_line.Statement.{statement}
@@ -30,16 +30,16 @@ returns c =
       kept (ascii "delete") (a .row) (slot .slot-of .result) (λ s. Command (Delete s)) (c6 .form6 .result) (slot .slot-of .ensures),
       c6 .form6 .ensures,
       c6 .before .takes-slot6 .ensures,
-      kept (ascii "create") (a .row) (slot .slot-of .result) (λ s. Command (CreateUnnamed (s .0))) (c5 .form5 .result) (slot .slot-of .ensures),
+      kept (ascii "create") (a .row) (slot .slot-of .result) (λ s. Command (Create (s .0))) (c5 .form5 .result) (slot .slot-of .ensures),
       c5 .form5 .ensures,
       c5 .before .takes-slot5 .ensures,
-      kept (ascii "create") (a .hexed) (named .slot-of2 .result) (λ s. Command (Create (s .0))) (c4 .form4 .result) (named .slot-of2 .ensures),
+      kept (ascii "create") (a .hexed) (named .slot-of2 .result) (λ s. Named (Create (s .0))) (c4 .form4 .result) (named .slot-of2 .ensures),
       c4 .form4 .ensures,
       c4 .before .takes-slot4 .ensures,
-      kept (ascii "rename") (a .row) (slot .slot-of .result) (λ s. Command (RenameToNothing s)) (c3 .form3 .result) (slot .slot-of .ensures),
+      kept (ascii "rename") (a .row) (slot .slot-of .result) (λ s. Command (Rename s)) (c3 .form3 .result) (slot .slot-of .ensures),
       c3 .form3 .ensures,
       c3 .before .takes-slot3 .ensures,
-      kept (ascii "rename") (a .hexed) (named .slot-of2 .result) (λ s. Command (Rename s)) (c2 .form2 .result) (named .slot-of2 .ensures),
+      kept (ascii "rename") (a .hexed) (named .slot-of2 .result) (λ s. Named (Rename s)) (c2 .form2 .result) (named .slot-of2 .ensures),
       c2 .form2 .ensures,
       c2 .before .takes-slot2 .ensures,
       kept (ascii "disable") (a .row) (slot .slot-of .result) (λ s. Command (Disable s)) (c1 .form .result) (slot .slot-of .ensures),

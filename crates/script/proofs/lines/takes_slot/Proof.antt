@@ -4,9 +4,5 @@ use borrow.Author.Needs.{needs}
 use Rattle.script.proofs.lines.takes_slot.Statement.{statement}
 use Rattle.script.proofs.lines.takes_slot.Tie as tie
 
-returns : tie.Need-returns
-unfolding takes-slot
-returns c = rw (c .before .takes .ensures)
-
 pub takes-slot-spec : {M : Type 1} → statement M
-takes-slot-spec = tie.close (tie.spec (λ c κs. search needs) returns)
+takes-slot-spec = tie.close (tie.spec (λ c κs. search needs) (λ c. unfold takes-slot in rw (c .before .takes .ensures)))

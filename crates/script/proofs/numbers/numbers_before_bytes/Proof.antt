@@ -13,9 +13,6 @@ returns c =
     let start = c .before .before in
     c .no-numbers .ensures ∙ no-bytes (start .before .before .args .line .now) (start .last-word-start .ensures) (c .before .if1 .taken)
 
-slice-aggregate-numbers-of : tie.Need-slice-aggregate-numbers-of
-slice-aggregate-numbers-of c = sym (length-take-le _ _ (omega (arith, c .before .before .last-word-start .ensures .inside)))
-
 returns-2 : tie.Need-returns-2
 returns-2 c =
     let read = c .before .before .before in
@@ -32,7 +29,7 @@ numbers-before-bytes-spec =
     (λ c κs. search needs)
     returns
     (λ c. search needs)
-    slice-aggregate-numbers-of
+    (λ c. sym (length-take-le _ _ (omega (arith, c .before .before .last-word-start .ensures .inside))))
     (λ c κs. search needs)
     (λ c. search needs)
     (λ c. search needs)

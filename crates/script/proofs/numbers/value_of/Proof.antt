@@ -3,8 +3,5 @@ use borrow.Author.Needs.{needs}
 use Rattle.script.proofs.numbers.value_of.Statement.{statement}
 use Rattle.script.proofs.numbers.value_of.Tie as tie
 
-returns : tie.Need-returns
-returns c = rw (c .number-of .ensures)
-
 pub value-of-spec : {M : Type 1} → statement M
-value-of-spec = tie.close (tie.spec (λ c κs. search needs) returns)
+value-of-spec = tie.close (tie.spec (λ c κs. search needs) (λ c. rw (c .number-of .ensures)))

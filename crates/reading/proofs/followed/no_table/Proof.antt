@@ -1,12 +1,12 @@
--- `reading::copies::no_table` meets its contract. Assumes nothing.
+-- `reading::followed::no_table` meets its contract. Assumes nothing.
 use mathlib.Core.Path.{_≡_, sym, ap₂, _∙_}
 use mathlib.Core.Bool.{Bool, true, false, _||_}
 use borrow.Author.Needs.{needs}
 use Rattle.rules.specs.Bytes.{block}
 use Rattle.rules.specs.Table.{magic-right}
 use Rattle.reading.proofs.Views.{some-magic, no-magic}
-use Rattle.reading.proofs.copies.no_table.Statement.{statement}
-use Rattle.reading.proofs.copies.no_table.Tie as tie
+use Rattle.reading.proofs.followed.no_table.Statement.{statement}
+use Rattle.reading.proofs.followed.no_table.Tie as tie
 
 returns : tie.Need-returns
 returns c =

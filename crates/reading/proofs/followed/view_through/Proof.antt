@@ -1,4 +1,4 @@
--- `reading::copies::view_through` follows a table to the pointer copy read: one case for each copy, and refusal 5.
+-- `reading::followed::view_through` follows a table to the pointer copy read: one case for each copy, and refusal 5.
 -- Assumes nothing.
 use mathlib.Core.Path.{_≡_, sym, _∙_}
 use native.Mathlib.Omega.{arith}
@@ -8,8 +8,8 @@ use Rattle.rules.specs.Table.{entries, cpb0-name, cpb1-name, cpb0-of, cpb1-of}
 use Rattle.walks.specs.Entries.{HasEntries}
 use Rattle.reading.specs.Answers.{viewed}
 use Rattle.reading.proofs.Views.{through-cpb0, through-cpb1, refused-5}
-use Rattle.reading.proofs.copies.view_through.Statement.{statement}
-use Rattle.reading.proofs.copies.view_through.Tie as tie
+use Rattle.reading.proofs.followed.view_through.Statement.{statement}
+use Rattle.reading.proofs.followed.view_through.Tie as tie
 
 -- the starts that the table gives
 start-0 : (c : tie.After-named-start)
@@ -32,12 +32,6 @@ has-entries c = record {
   whole = c .before .block-at .ensures .1;
   few = rw (c .entry-count .ensures, c .before .block-at .ensures .0) (c .before .before .before .pre .count-right);
 }
-
-named-start-requires : tie.Need-named-start-requires
-named-start-requires c κs = has-entries (c .before)
-
-named-start-requires-2 : tie.Need-named-start-requires-2
-named-start-requires-2 c κs = has-entries (c .before .before .before)
 
 pointers-stand-requires : tie.Need-pointers-stand-requires
 pointers-stand-requires c κs =
@@ -93,9 +87,9 @@ view-through-spec =
     (λ c κs. search needs)
     (λ c κs. search needs)
     (λ c. search needs)
-    named-start-requires
+    (λ c κs. has-entries (c .before))
     (λ c. search needs)
-    named-start-requires-2
+    (λ c κs. has-entries (c .before .before .before))
     pointers-stand-requires
     returns
     pointers-stand-requires-2
