@@ -72,7 +72,9 @@ pub fn renamed(table: [u8; 4096], slot: SlotNo) -> [u8; 4096]
     if entries::has_name(&table, e, &name) {
         return table;
     }
-    blocks::tables::with_name(&table, e, &name)
+    let mut made = no_block();
+    blocks::tables::put_name(&table, e, &name, &mut made);
+    made
 }
 
 // A table has such a slot, among no more entries than there is room for.
@@ -102,7 +104,9 @@ pub fn without_slot(table: [u8; 4096], slot: SlotNo) -> [u8; 4096]
 {
     let e = entry_of(table, slot);
     let n = entries::entry_count(&table);
-    rooms::rows::without_row(&table, n, e)
+    let mut made = no_block();
+    rooms::rows::put_without_row(&table, n, e, &mut made);
+    made
 }
 
 // Where a new slot of this length starts on a flash; 0 where the flash cannot be read.
@@ -146,5 +150,7 @@ pub fn with_new_slot(table: [u8; 4096], image: &[u8], setting: Setting, size: u3
     }
     let start = start_for(image, setting, long);
     let name = new_name();
-    rooms::rows::with_new_row(&table, n, &name, start, long)
+    let mut made = no_block();
+    rooms::rows::put_new_row(&table, n, &name, start, long, &mut made);
+    made
 }

@@ -8,7 +8,7 @@ use native.Mathlib.Numerals.{add-one}
 use native.Mathlib.Omega.{arith}
 use lib.Dec.{eqb}
 use lib.ListN.{length}
-use borrow.Author.Tests.{eq-eqb, ne-eqb}
+use borrow.Author.Tests.{eq-eqb, ne-eqb, eqb-true, eqb-false}
 use Rattle.rules.specs.Lists.{all, pairwise, first-failing, first-clash}
 use Rattle.rules.specs.Table.{Entry, rows}
 use Rattle.rules.proofs.Lists.Tests.{by-cases}
@@ -47,15 +47,26 @@ module _ {A : Type 0} {xs : List A} where
       unfolding first-clash
       clash-goes e h = rw (e, h)
 
--- one more entry is before the next; and the same on the way down
+-- one more entry is before the next
 pub before-next : (t : List ℕ) (k : ℕ) → entries-before t (k + 1) ≡ entry-at t k ∷ entries-before t k
 unfolding entries-before
 before-next t k = rw add-one
 
-pub before-down : (t : List ℕ) (k : ℕ) → 0 < k → entries-before t k ≡ entry-at t (k - 1) ∷ entries-before t (k - 1)
-unfolding entries-before
-before-down t zero h = absurd (omega (arith, h))
-before-down t (suc k) h = let e : suc k - 1 ≡ k = omega arith in rw e
+-- one that fails is among those before a later one
+pub one-before-fails : (f : Entry → Bool) (t : List ℕ) (k n : ℕ)
+    → k < n
+    → f (entry-at t k) ≡ false
+    → all f (entries-before t n) ≡ false
+unfolding all entries-before
+one-before-fails f t k zero l h = absurd (omega arith)
+one-before-fails f t k (suc n) l h =
+    by-cases (eqb k n)
+    (λ u. rw (← eqb-true k n u, h))
+    (λ u. rw (one-before-fails f t k n (omega (arith, eqb-false k n u)) h) (and-false (f (entry-at t n))))
+  where
+    and-false : (a : Bool) → a && false ≡ false
+    and-false true = refl
+    and-false false = refl
 
 -- ---- the number of elements where all keep the rule
 

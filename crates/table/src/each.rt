@@ -73,18 +73,18 @@ pub fn first_clash(rule: PairRule, table: &[u8], n: usize, from: usize) -> usize
     n
 }
 
-// An entry keeps the rule with each earlier one, the nearest first.
+// An entry keeps the rule with each earlier one.
 fn earlier_keep(rule: PairRule, table: &[u8], e: EntryNo) -> bool
     requires { ⌜ (length (now table) ≡ block-size) × (e .0 < most-entries) ⌝ }
     ensures { λ r. ⌜ r
         ≡ all (λ d. both-keep rule d (entry-at (now (table .entry)) (e .0))) (entries-before (now (table .entry)) (e .0)) ⌝ }
 {
-    let mut k = e.0;
-    while 0 < k {
-        k -= 1;
+    let mut k = 0;
+    while k < e.0 {
         if !pair_keeps(rule, table, EntryNo(k), e) {
             return false;
         }
+        k += 1;
     }
     true
 }

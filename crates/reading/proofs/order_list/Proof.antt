@@ -10,11 +10,6 @@ use Rattle.reading.proofs.Opening.{was-viewed, was-refused, opened, has
 use Rattle.reading.proofs.order_list.Statement.{statement}
 use Rattle.reading.proofs.order_list.Tie as tie
 
-block-at-requires : tie.Need-block-at-requires
-block-at-requires c κs =
-    let called = c .before .before .before in
-    opened _ _ (called .view .ensures) (c .before .seen2 .given .1) .table-inside
-
 block-at-requires-2 : tie.Need-block-at-requires-2
 block-at-requires-2 c κs =
     let seen = c .before .before in
@@ -53,7 +48,7 @@ order-list-spec =
     (λ c κs. search needs)
     (λ c. search needs)
     (λ c. search needs)
-    block-at-requires
+    (λ c κs. opened _ _ (c .before .before .before .view .ensures) (c .before .seen2 .given .1) .table-inside)
     block-at-requires-2
     list-order-requires
     returns

@@ -8,11 +8,6 @@ use Rattle.reading.proofs.Opening.{was-viewed, was-refused, opened, has
 use Rattle.reading.proofs.slot_count.Statement.{statement}
 use Rattle.reading.proofs.slot_count.Tie as tie
 
-block-at-requires : tie.Need-block-at-requires
-block-at-requires c κs =
-    let called = c .before .before .before in
-    opened _ _ (called .view .ensures) (c .before .seen2 .given .1) .table-inside
-
 count-slots-requires : tie.Need-count-slots-requires
 count-slots-requires c κs =
     let block = c .before in
@@ -46,7 +41,7 @@ slot-count-spec =
     (λ c κs. search needs)
     (λ c. search needs)
     (λ c. search needs)
-    block-at-requires
+    (λ c κs. opened _ _ (c .before .before .before .view .ensures) (c .before .seen2 .given .1) .table-inside)
     (λ c κs. search needs)
     count-slots-requires
     returns

@@ -9,11 +9,6 @@ use Rattle.reading.proofs.Opening.{was-viewed, was-refused, opened, has
 use Rattle.reading.proofs.slot_facts.Statement.{statement}
 use Rattle.reading.proofs.slot_facts.Tie as tie
 
-block-at-requires : tie.Need-block-at-requires
-block-at-requires c κs =
-    let called = c .before .before .before in
-    opened _ _ (called .view .ensures) (c .before .seen2 .given .1) .table-inside
-
 facts-in-requires : tie.Need-facts-in-requires
 facts-in-requires c κs =
     let block = c .before in
@@ -47,7 +42,7 @@ slot-facts-spec =
     (λ c κs. search needs)
     (λ c. search needs)
     (λ c. search needs)
-    block-at-requires
+    (λ c κs. opened _ _ (c .before .before .before .view .ensures) (c .before .seen2 .given .1) .table-inside)
     (λ c κs. search needs)
     facts-in-requires
     returns

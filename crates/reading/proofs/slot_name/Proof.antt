@@ -11,11 +11,6 @@ use Rattle.reading.proofs.Opening.{no-table, table-of-view, opened, has
 use Rattle.reading.proofs.slot_name.Statement.{statement}
 use Rattle.reading.proofs.slot_name.Tie as tie
 
-block-at-requires : tie.Need-block-at-requires
-block-at-requires c κs =
-    let called = c .before .before .before in
-    opened _ _ (called .view .ensures) (c .before .seen .given .1) .table-inside
-
 name-in-requires : tie.Need-name-in-requires
 name-in-requires c κs =
     let block = c .before in
@@ -51,7 +46,7 @@ slot-name-spec =
     (λ c. search needs)
     (λ c. search needs)
     (λ c. search needs)
-    block-at-requires
+    (λ c κs. opened _ _ (c .before .before .before .view .ensures) (c .before .seen .given .1) .table-inside)
     (λ c κs. search needs)
     name-in-requires
     returns

@@ -5,16 +5,6 @@ use Rattle.reading.proofs.Opening.{no-table, table-of-view, opened}
 use Rattle.reading.proofs.table_read.Statement.{statement}
 use Rattle.reading.proofs.table_read.Tie as tie
 
-block-at-requires : tie.Need-block-at-requires
-block-at-requires c κs =
-    let called = c .before .before .before in
-    opened _ _ (called .view .ensures) (c .before .seen .given .1) .table-inside
-
-returns : tie.Need-returns
-returns c =
-    let called = c .before .before .before in
-    sym (no-table _ _ (called .view .ensures) (c .before .enum-told .given .1))
-
 returns-2 : tie.Need-returns-2
 returns-2 c =
     let seen = c .before .before in
@@ -29,6 +19,6 @@ table-read-spec =
     (λ c. search needs)
     (λ c. search needs)
     (λ c. search needs)
-    block-at-requires
-    returns
+    (λ c κs. opened _ _ (c .before .before .before .view .ensures) (c .before .seen .given .1) .table-inside)
+    (λ c. sym (no-table _ _ (c .before .before .before .view .ensures) (c .before .enum-told .given .1)))
     returns-2)

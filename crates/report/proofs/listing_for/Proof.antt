@@ -6,11 +6,6 @@ use borrow.Author.Needs.{needs}
 use Rattle.report.proofs.listing_for.Statement.{statement}
 use Rattle.report.proofs.listing_for.Tie as tie
 
-put-parts-requires : tie.Need-put-parts-requires
-put-parts-requires c κs =
-    let seen = c .before .before in
-    opened _ _ (seen .before .before .view .ensures) (seen .seen2 .given .1)
-
 returns : tie.Need-returns
 unfolding listing-by listing-for
 returns c =
@@ -35,7 +30,7 @@ listing-for-spec =
     (λ c. search needs)
     (λ c κs. search needs)
     (λ c. search needs)
-    put-parts-requires
+    (λ c κs. opened _ _ (c .before .before .before .before .view .ensures) (c .before .before .seen2 .given .1))
     (λ c. search needs)
     returns
     (λ c. search needs)

@@ -11,16 +11,6 @@ use borrow.Author.Needs.{needs}
 use Rattle.report.proofs.put_parts.Statement.{statement}
 use Rattle.report.proofs.put_parts.Tie as tie
 
-rows-of-requires : tie.Need-rows-of-requires
-rows-of-requires c κs =
-    let table = c .before in
-    has-entries (table .before .before .before .pre) _ _ (table .block-at .ensures) refl
-
-places-of-requires : tie.Need-places-of-requires
-places-of-requires c κs =
-    let pointers = c .before in
-    has-pointers (pointers .before .before .before .before .pre) _ (pointers .block-at2 .ensures)
-
 write-order-requires : tie.Need-write-order-requires
 write-order-requires c κs =
     let places = c .before in
@@ -73,8 +63,8 @@ put-parts-spec =
     (tie.spec
     (λ c κs. search needs)
     (λ c κs. search needs)
-    rows-of-requires
-    places-of-requires
+    (λ c κs. has-entries (c .before .before .before .before .pre) _ _ (c .before .block-at .ensures) refl)
+    (λ c κs. has-pointers (c .before .before .before .before .before .pre) _ (c .before .block-at2 .ensures))
     (λ c. search needs)
     write-order-requires
     (λ c. search needs)

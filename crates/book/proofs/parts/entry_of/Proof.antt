@@ -12,10 +12,6 @@ slot-row-requires c κs =
     let s = at .before .before in
     record { whole = search needs; few = rw (at .entry-count .ensures) (few-entries _ _ (s .pre)) }
 
-returns : tie.Need-returns
-unfolding entries
-returns c = c .slot-row .ensures .0 ∙ rw (c .before .before .entry-count .ensures)
-
 pub entry-of-spec : {M : Type 1} → statement M
 entry-of-spec =
     tie.close
@@ -24,4 +20,4 @@ entry-of-spec =
     (λ c κs. search needs)
     (λ c. search needs)
     slot-row-requires
-    returns)
+    (λ c. unfold entries in c .slot-row .ensures .0 ∙ rw (c .before .before .entry-count .ensures)))

@@ -6,10 +6,5 @@ use Rattle.book.specs.Kept.{has-row}
 use Rattle.book.proofs.parts.has_row.Statement.{statement}
 use Rattle.book.proofs.parts.has_row.Tie as tie
 
-returns : tie.Need-returns
-unfolding has-row size-right multiple
-returns c =
-    refl
-
 pub has-row-spec : {M : Type 1} → statement M
-has-row-spec = tie.close (tie.spec returns)
+has-row-spec = tie.close (tie.spec (λ c. unfold has-row size-right multiple in refl))

@@ -19,29 +19,25 @@ has c = passed (c .before .has-slot .ensures) (c .if1 .left)
 counted : (c : tie.After-entry-of) → c .entry-of .result .0 < most-entries
 counted c = omega (arith, row-below _ _ (has (c .before)) (c .entry-of .ensures), few-entries _ _ (has (c .before)))
 
-has-name-requires : tie.Need-has-name-requires
-has-name-requires c κs = (search needs, counted (c .before .before .before))
-
 returns-2 : tie.Need-returns-2
 returns-2 c =
     let at = c .before .before .before .before .before in
     named-already _ _ (has (at .before)) (at .entry-of .ensures)
     (rw (c .before .before .before .before .new-name .ensures) at (sym (c .before .has-name .ensures) ∙ c .if2 .taken))
 
-with-name-requires : tie.Need-with-name-requires
-with-name-requires c κs =
-    let named = c .before .before .before .before .before .before in
-    ((search needs, counted (named .before)), omega (arith, ap length (named .new-name .ensures)))
+put-name-requires : tie.Need-put-name-requires
+put-name-requires c κs =
+    let named = c .before .before .before .before .before .before .before .before in
+    ((search needs, counted (c .before .before .before .before .before .before .before .before .before)), (omega (arith, ap length (named .new-name .ensures)), search needs))
 
 returns-3 : tie.Need-returns-3
 returns-3 c =
-    let past = c .before .before .before in
-    let named = past .before .before .before .before in
-    let at = named .before in
-    c .with-name .ensures
+    let named = c .before .before .before .before .before .before .before .before .before .before in
+    let at = c .before .before .before .before .before .before .before .before .before .before .before in
+    c .before .put-name .ensures
     ∙ rw (named .new-name .ensures)
     (named-now _ _ (has (at .before)) (at .entry-of .ensures)
-    (rw (named .new-name .ensures) at (sym (past .before .has-name .ensures) ∙ past .if2 .left)))
+    (rw (named .new-name .ensures) at (sym (c .before .before .before .before .before .before .before .has-name .ensures) ∙ c .before .before .before .before .before .before .if2 .left)))
 
 pub renamed-spec : {M : Type 1} → statement M
 renamed-spec =
@@ -53,9 +49,11 @@ renamed-spec =
     (λ c κs. search needs)
     (λ c. search needs)
     (λ c. search needs)
-    has-name-requires
+    (λ c κs. (search needs, omega (arith, counted (c .before .before .before))))
     returns-2
+    (λ c κs. search needs)
     (λ c. search needs)
     (λ c. search needs)
-    with-name-requires
+    (λ c. search needs)
+    put-name-requires
     returns-3)

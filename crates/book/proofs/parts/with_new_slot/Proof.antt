@@ -18,34 +18,32 @@ use Rattle.book.proofs.parts.with_new_slot.Tie as tie
 fits : (c : tie.Else1) → has-row (c .before .before .entry-count .result) (c .before .before .before .before .before .args .size) ≡ true
 fits c = passed (c .before .has-row .ensures) (c .if1 .left)
 
-returns : tie.Need-returns
-returns c =
-    let at = c .before .before in
-    sym (rw (← at .entry-count .ensures, failed (c .before .has-row .ensures) (c .if1 .taken)))
-
 start-for-requires : tie.Need-start-for-requires
 unfolding has-row
 start-for-requires c κs =
     (and-true (ltb (c .before .before .entry-count .result) most-entries) (size-right (c .before .before .before .before .before .args .size)) (fits c) .1, omega arith)
 
-with-new-row-requires : tie.Need-with-new-row-requires
+put-new-row-requires : tie.Need-put-new-row-requires
 unfolding has-row
-with-new-row-requires c κs =
-    let at-name = c .before .before in
-    let at-if = at-name .before .before in
-    let at = at-if .before .before in
+put-new-row-requires c κs =
+    let at = c .before .before .before .before .before .before .before .before in
+    let size = c .before .before .before .before .before .before .before .before .before .before .before .args .size in
     let room = ltb-true (at .entry-count .result) most-entries
-    (and-true (ltb (at .entry-count .result) most-entries) (size-right (at .before .before .before .args .size)) (fits at-if) .0) in
-    ((search needs, (at .entry-count .ensures, room)), (omega (arith, ap length (at-name .new-name .ensures)), omega arith))
+    (and-true (ltb (at .entry-count .result) most-entries) (size-right size) (fits (c .before .before .before .before .before .before)) .0) in (
+      (search needs, (at .entry-count .ensures, room)),
+      (omega (arith, ap length (c .before .before .before .before .new-name .ensures)), (omega arith, search needs)),
+    )
 
 returns-2 : tie.Need-returns-2
 returns-2 c =
-    let at-name = c .before .before .before in
-    let at-start = at-name .before in
-    let at-if = at-start .before in
-    let at = at-if .before .before in
-    c .with-new-row .ensures
-    ∙ sym (rw (← at .entry-count .ensures, fits at-if, ← at-start .start-for .ensures, ← at-name .new-name .ensures))
+    c .before .put-new-row .ensures
+    ∙ sym
+    (rw (
+      ← c .before .before .before .before .before .before .before .before .before .before .entry-count .ensures,
+      fits (c .before .before .before .before .before .before .before .before),
+      ← c .before .before .before .before .before .before .before .start-for .ensures,
+      ← c .before .before .before .before .before .before .new-name .ensures,
+    ))
 
 pub with-new-slot-spec : {M : Type 1} → statement M
 with-new-slot-spec =
@@ -54,10 +52,12 @@ with-new-slot-spec =
     (λ c. search needs)
     (λ c κs. search needs)
     (λ c κs. search needs)
-    returns
+    (λ c. sym (rw (← c .before .before .entry-count .ensures, failed (c .before .has-row .ensures) (c .if1 .taken))))
     start-for-requires
+    (λ c κs. search needs)
     (λ c κs. search needs)
     (λ c. search needs)
     (λ c. search needs)
-    with-new-row-requires
+    (λ c. search needs)
+    put-new-row-requires
     returns-2)

@@ -5,16 +5,17 @@ use borrow.Author.Needs.{needs}
 use Rattle.book.proofs.parts.without_slot.Statement.{statement}
 use Rattle.book.proofs.parts.without_slot.Tie as tie
 
-without-row-requires : tie.Need-without-row-requires
-without-row-requires c κs =
-    let at = c .before in
-    let row = at .before .before in
-    let counted = at .entry-count .ensures in
-    let has = row .before .pre in
-    ((search needs, (counted, rw counted (few-entries _ _ has))), rw counted (row-below _ _ has (row .entry-of .ensures)))
+put-without-row-requires : tie.Need-put-without-row-requires
+put-without-row-requires c κs =
+    let row = c .before .before .before .before .before in
+    let counted = c .before .before .before .entry-count .ensures in
+    let has = c .before .before .before .before .before .before .pre in (
+      (search needs, (counted, rw counted (few-entries _ _ has))),
+      (rw counted (row-below _ _ has (row .entry-of .ensures)), search needs),
+    )
 
 returns : tie.Need-returns
-returns c = c .without-row .ensures ∙ rw (c .before .before .before .before .entry-of .ensures)
+returns c = c .before .put-without-row .ensures ∙ rw (c .before .before .before .before .before .before .before .entry-of .ensures)
 
 pub without-slot-spec : {M : Type 1} → statement M
 without-slot-spec =
@@ -23,6 +24,8 @@ without-slot-spec =
     (λ c κs. search needs)
     (λ c. search needs)
     (λ c κs. search needs)
+    (λ c κs. search needs)
     (λ c. search needs)
-    without-row-requires
+    (λ c. search needs)
+    put-without-row-requires
     returns)

@@ -10,11 +10,6 @@ use Rattle.inspect.specs.Entries.{info-in, entry-info}
 use Rattle.inspect.proofs.entry.entry_info.Statement.{statement}
 use Rattle.inspect.proofs.entry.entry_info.Tie as tie
 
-block-at-requires : tie.Need-block-at-requires
-block-at-requires c κs =
-    let called = c .before .before .before in
-    opened _ _ (called .view .ensures) (c .before .seen2 .given .1) .table-inside
-
 info-in-requires : tie.Need-info-in-requires
 info-in-requires c κs =
     let seen = c .before .before in
@@ -43,7 +38,7 @@ entry-info-spec =
     (λ c κs. search needs)
     (λ c. search needs)
     (λ c. search needs)
-    block-at-requires
+    (λ c κs. opened _ _ (c .before .before .before .view .ensures) (c .before .seen2 .given .1) .table-inside)
     info-in-requires
     returns
     returns-2)

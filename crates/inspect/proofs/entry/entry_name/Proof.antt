@@ -7,11 +7,6 @@ use Rattle.inspect.proofs.EntryNames.{no-entry-name}
 use Rattle.inspect.proofs.entry.entry_name.Statement.{statement}
 use Rattle.inspect.proofs.entry.entry_name.Tie as tie
 
-block-at-requires : tie.Need-block-at-requires
-block-at-requires c κs =
-    let called = c .before .before .before in
-    opened _ _ (called .view .ensures) (c .before .seen .given .1) .table-inside
-
 name-in-requires : tie.Need-name-in-requires
 name-in-requires c κs =
     let seen = c .before .before in
@@ -47,7 +42,7 @@ entry-name-spec =
     (λ c. search needs)
     (λ c. search needs)
     (λ c. search needs)
-    block-at-requires
+    (λ c κs. opened _ _ (c .before .before .before .view .ensures) (c .before .seen .given .1) .table-inside)
     name-in-requires
     returns
     returns-2)

@@ -9,11 +9,6 @@ use Rattle.inspect.specs.Entries.{entry-total}
 use Rattle.inspect.proofs.entry.entry_total.Statement.{statement}
 use Rattle.inspect.proofs.entry.entry_total.Tie as tie
 
-block-at-requires : tie.Need-block-at-requires
-block-at-requires c κs =
-    let called = c .before .before .before in
-    opened _ _ (called .view .ensures) (c .before .seen2 .given .1) .table-inside
-
 returns : tie.Need-returns
 unfolding totalled entry-total _>>=_
 returns c =
@@ -35,7 +30,7 @@ entry-total-spec =
     (λ c κs. search needs)
     (λ c. search needs)
     (λ c. search needs)
-    block-at-requires
+    (λ c κs. opened _ _ (c .before .before .before .view .ensures) (c .before .seen2 .given .1) .table-inside)
     (λ c κs. search needs)
     returns
     returns-2)

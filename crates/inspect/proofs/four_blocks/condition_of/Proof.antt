@@ -6,11 +6,6 @@ use borrow.Author.Needs.{needs}
 use Rattle.inspect.proofs.four_blocks.condition_of.Statement.{statement}
 use Rattle.inspect.proofs.four_blocks.condition_of.Tie as tie
 
-condition-by-requires : tie.Need-condition-by-requires
-condition-by-requires c κs =
-    let called = c .before .before .before in
-    was-viewed _ _ (called .view .ensures) (c .before .seen2 .given .1)
-
 returns : tie.Need-returns
 unfolding inspected condition _>>=_
 returns c =
@@ -30,6 +25,6 @@ condition-of-spec =
     (λ c κs. search needs)
     (λ c. search needs)
     (λ c. search needs)
-    condition-by-requires
+    (λ c κs. was-viewed _ _ (c .before .before .before .view .ensures) (c .before .seen2 .given .1))
     returns
     returns-2)

@@ -7,11 +7,6 @@ use Rattle.inspect.specs.Places.{place-at, holding}
 use Rattle.inspect.proofs.place.place_at.Statement.{statement}
 use Rattle.inspect.proofs.place.place_at.Tie as tie
 
-block-at-requires : tie.Need-block-at-requires
-block-at-requires c κs =
-    let called = c .before .before .before in
-    opened _ _ (called .view .ensures) (c .before .seen2 .given .1) .table-inside
-
 block-at-requires-2 : tie.Need-block-at-requires-2
 block-at-requires-2 c κs =
     let seen = c .before .before in
@@ -50,7 +45,7 @@ place-at-spec =
     (λ c κs. search needs)
     (λ c. search needs)
     (λ c. search needs)
-    block-at-requires
+    (λ c κs. opened _ _ (c .before .before .before .view .ensures) (c .before .seen2 .given .1) .table-inside)
     block-at-requires-2
     held-in-requires
     returns

@@ -10,11 +10,6 @@ use Rattle.inspect.specs.Places.{place-total}
 use Rattle.inspect.proofs.place.place_total.Statement.{statement}
 use Rattle.inspect.proofs.place.place_total.Tie as tie
 
-block-at-requires : tie.Need-block-at-requires
-block-at-requires c κs =
-    let called = c .before .before .before in
-    opened _ _ (called .view .ensures) (c .before .seen2 .given .1) .pointers-inside
-
 places-of-requires : tie.Need-places-of-requires
 places-of-requires c κs =
     let seen = c .before .before in
@@ -42,7 +37,7 @@ place-total-spec =
     (λ c κs. search needs)
     (λ c. search needs)
     (λ c. search needs)
-    block-at-requires
+    (λ c κs. opened _ _ (c .before .before .before .view .ensures) (c .before .seen2 .given .1) .pointers-inside)
     places-of-requires
     returns
     returns-2)
