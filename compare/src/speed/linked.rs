@@ -1,94 +1,14 @@
-//! The updater's static library behind the same trait. The C declarations below follow the
-//! library's header, link/c/delunkpawi.h. Every function returns 0 or a refusal number.
+//! The updater's static library behind the same trait, by the declarations of its wrapper in Rust,
+//! link/rust. Every function returns 0 or a refusal number.
+
+use delunkpawi::raw::{
+    delunkpawi_create, delunkpawi_delete, delunkpawi_disable, delunkpawi_enable,
+    delunkpawi_job_size, delunkpawi_order, delunkpawi_rename, delunkpawi_repair, delunkpawi_run,
+};
 
 use super::Updater;
 use crate::document::commands::Command;
 use crate::document::image::Geometry;
-
-extern "C" {
-    fn delunkpawi_order(
-        image: *const u8,
-        image_length: usize,
-        granule: usize,
-        spt0: usize,
-        spt1: usize,
-        row: *mut u32,
-        row_length: usize,
-        count: *mut usize,
-    ) -> u8;
-    fn delunkpawi_enable(
-        image: *const u8,
-        image_length: usize,
-        granule: usize,
-        spt0: usize,
-        spt1: usize,
-        slot: u32,
-        job: *mut u8,
-        job_length: usize,
-    ) -> u8;
-    fn delunkpawi_disable(
-        image: *const u8,
-        image_length: usize,
-        granule: usize,
-        spt0: usize,
-        spt1: usize,
-        slot: u32,
-        job: *mut u8,
-        job_length: usize,
-    ) -> u8;
-    fn delunkpawi_rename(
-        image: *const u8,
-        image_length: usize,
-        granule: usize,
-        spt0: usize,
-        spt1: usize,
-        slot: u32,
-        name: *const u8,
-        name_length: usize,
-        job: *mut u8,
-        job_length: usize,
-    ) -> u8;
-    fn delunkpawi_create(
-        image: *const u8,
-        image_length: usize,
-        granule: usize,
-        spt0: usize,
-        spt1: usize,
-        name: *const u8,
-        name_length: usize,
-        length: u32,
-        job: *mut u8,
-        job_length: usize,
-    ) -> u8;
-    fn delunkpawi_delete(
-        image: *const u8,
-        image_length: usize,
-        granule: usize,
-        spt0: usize,
-        spt1: usize,
-        slot: u32,
-        job: *mut u8,
-        job_length: usize,
-    ) -> u8;
-    fn delunkpawi_repair(
-        image: *const u8,
-        image_length: usize,
-        granule: usize,
-        spt0: usize,
-        spt1: usize,
-        job: *mut u8,
-        job_length: usize,
-    ) -> u8;
-    fn delunkpawi_run(
-        job: *mut u8,
-        job_length: usize,
-        image: *mut u8,
-        image_length: usize,
-        budget: usize,
-        done: *mut usize,
-    ) -> u8;
-    fn delunkpawi_job_size() -> usize;
-}
 
 pub struct Linked;
 

@@ -4,7 +4,7 @@ use mathlib.Core.List.{[], _∷_}
 use lib.ListN.{length, take}
 use Rattle.rules.specs.Bytes.{bytes-of}
 use Rattle.jobs.specs.declared.Kind.the-variants.{Nothing}
-use Rattle.blocks.specs.Made.{rewrites, no-job, no-steps, pair-rewritten, number-bytes, places-noted}
+use Rattle.blocks.specs.Made.{rewrites, no-job, no-steps, pair-rewritten, number-bytes, place-list}
 
 -- places 2 and 300, lowest byte first
 pub two-bytes-each : number-bytes (2 ∷ 300 ∷ []) ≡ 2 ∷ 0 ∷ 44 ∷ 1 ∷ []
@@ -13,9 +13,9 @@ two-bytes-each = refl
 
 -- zeros after them, 1,016 bytes in all
 pub zeros-after :
-    (take 6 (places-noted (2 ∷ []) .places) ≡ 2 ∷ 0 ∷ 0 ∷ 0 ∷ 0 ∷ 0 ∷ [])
-    × ((length (places-noted (2 ∷ []) .places) ≡ 1016) × (places-noted (2 ∷ []) .count ≡ 1))
-unfolding bytes-of number-bytes places-noted
+    (take 6 (place-list (2 ∷ []) .places) ≡ 2 ∷ 0 ∷ 0 ∷ 0 ∷ 0 ∷ 0 ∷ [])
+    × ((length (place-list (2 ∷ []) .places) ≡ 1016) × (place-list (2 ∷ []) .count ≡ 1))
+unfolding bytes-of number-bytes place-list
 zeros-after = (refl, (refl, refl))
 
 -- copy 1 of a pair, at 0x7000, comes before copy 0, at 0x6000

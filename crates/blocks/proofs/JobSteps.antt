@@ -10,7 +10,7 @@ use Rattle.rules.specs.Commands.{into-places}
 use Rattle.rules.specs.declared.Step.{Step}
 use Rattle.jobs.specs.Jobs.{place-room, part, listed, steps-of}
 use Rattle.jobs.specs.declared.Kind.the-variants.{Nothing, Rewrite}
-use Rattle.blocks.specs.Made.{Lists, Rewriting, rewrites, no-steps, no-job, pair-rewritten, places-noted, places-written}
+use Rattle.blocks.specs.Made.{Lists, Rewriting, rewrites, no-steps, no-job, pair-rewritten, place-list, places-written}
 use Rattle.blocks.proofs.Noting.{Below, noted-back}
 
 -- the steps of a block to be rewritten or not
@@ -37,9 +37,9 @@ module _ (len granule : ℕ) where
   pair-lists a0 a1 b = rewrites-lists _ _
 
   pub places-lists : (offset at after : ℕ) (ks v : List ℕ) → length ks ≤ place-room → Below place-room ks
-      → Lists (places-written len granule offset at after (places-noted ks) v) len granule
+      → Lists (places-written len granule offset at after (place-list ks) v) len granule
       (into-places at offset v ks ++ into-places after offset v ks)
-  unfolding steps-of listed part places-written places-noted
+  unfolding steps-of listed part places-written place-list
   places-lists offset at after ks v room small = record {
     steps = rw (min-eq-left room, noted-back ks small);
     same-len = refl;

@@ -8,7 +8,7 @@ use lib.Seq.{append-snoc, set-at}
 use Rattle.rules.specs.Bytes.{little-endian, bytes-of, field}
 use Rattle.rules.proofs.Lists.Words.{length-bytes-of}
 use Rattle.jobs.specs.Jobs.{place-room, numbers-from}
-use Rattle.blocks.specs.Made.{number-bytes, places-noted}
+use Rattle.blocks.specs.Made.{number-bytes, place-list}
 use Rattle.blocks.specs.Inner.Walked.{noted}
 
 -- ---- one number more
@@ -26,8 +26,8 @@ number-bytes-last [] k = append-nil (bytes-of 2 k)
 number-bytes-last (j ∷ ks) k = rw (number-bytes-last ks k, append-assoc)
 
 module _ (ks : List ℕ) (k : ℕ) (room : length ks < place-room) (small : k < place-room) where
-  one-more : noted (length ks) k (places-noted ks .places) ≡ places-noted (ks ++ (k ∷ [])) .places
-  unfolding noted places-noted bytes-of
+  one-more : noted (length ks) k (place-list ks .places) ≡ place-list (ks ++ (k ∷ [])) .places
+  unfolding noted place-list bytes-of
   one-more =
       let front = number-bytes ks in
       let rest : List ℕ = replicate (2 * (place-room - length (ks ++ (k ∷ [])))) 0 in
@@ -47,14 +47,14 @@ module _ (ks : List ℕ) (k : ℕ) (room : length ks < place-room) (small : k < 
 
   pub noted-after : (met : ℕ) (numbers numbers′ : List ℕ)
       → met ≡ length ks
-      → numbers ≡ places-noted ks .places
+      → numbers ≡ place-list ks .places
       → numbers′ ≡ noted met k numbers
-      → numbers′ ≡ places-noted (ks ++ (k ∷ [])) .places
+      → numbers′ ≡ place-list (ks ++ (k ∷ [])) .places
   noted-after met numbers numbers′ counted same more = more ∙ rw (counted, same) one-more
 
 -- the room of the numbers
-pub length-noted : (ks : List ℕ) → length ks ≤ place-room → length (places-noted ks .places) ≡ 2 * place-room
-unfolding places-noted
+pub length-noted : (ks : List ℕ) → length ks ≤ place-room → length (place-list ks .places) ≡ 2 * place-room
+unfolding place-list
 length-noted ks h =
     length-append (number-bytes ks) (replicate (2 * (place-room - length ks)) 0)
     ∙ omega (arith, length-number-bytes ks, length-replicate {A = ℕ} (2 * (place-room - length ks)) 0)
@@ -72,6 +72,6 @@ numbers-back [] rest h = refl
 numbers-back (k ∷ ks) rest (h, hs) =
     ap₂ {C = List ℕ} (λ j js. j ∷ js) (omega arith) (numbers-back ks rest hs)
 
-pub noted-back : (ks : List ℕ) → Below place-room ks → numbers-from (length ks) (places-noted ks .places) ≡ ks
-unfolding places-noted
+pub noted-back : (ks : List ℕ) → Below place-room ks → numbers-from (length ks) (place-list ks .places) ≡ ks
+unfolding place-list
 noted-back ks h = numbers-back ks (replicate (2 * (place-room - length ks)) 0) h

@@ -10,7 +10,7 @@ use Rattle.jobs.specs.Jobs.{place-room, steps-of}
 use Rattle.jobs.specs.declared.Job.{Job}
 use Rattle.jobs.specs.declared.Plan.{Plan}
 use Rattle.jobs.specs.declared.Kind.the-variants.{Nothing, Rewrite, Places}
-use Rattle.blocks.specs.declared.Noted.{Noted}
+use Rattle.blocks.specs.declared.PlaceList.{PlaceList}
 
 -- a job with no step done: it denotes these steps, for an image of this length and with this granule
 pub record Lists (j : Job) (len granule : ℕ) (ss : List Step) : Type 0 where
@@ -88,8 +88,8 @@ number-bytes [] = []
 number-bytes (k ∷ ks) = bytes-of 2 k ++ number-bytes ks
 
 -- the numbers of some places, then zeros
-unfoldable pub places-noted : List ℕ → Noted
-places-noted ks =
+unfoldable pub place-list : List ℕ → PlaceList
+place-list ks =
     record { places = number-bytes ks ++ replicate (2 * (place-room - length ks)) 0; count = length ks }
 
 -- bytes into so many places, which begin at an offset of the block at one address, then of the block at another
@@ -106,7 +106,7 @@ places-plan len granule offset at after count = record {
 }
 
 -- eight bytes into each of the places noted
-unfoldable pub places-written : ℕ → ℕ → ℕ → ℕ → ℕ → Noted → List ℕ → Job
+unfoldable pub places-written : ℕ → ℕ → ℕ → ℕ → ℕ → PlaceList → List ℕ → Job
 places-written len granule offset at after found v = record {
   plan = places-plan len granule offset at after (found .count);
   done = 0;

@@ -6,7 +6,7 @@ pub mod tables; // a table with another name in an entry
 pub mod made; // jobs, and their plans
 
 // The numbers of some places, two bytes each, in the front of an array.
-pub struct Noted {
+pub struct PlaceList {
     pub places: [u8; 1016],
     pub count: usize,
 }

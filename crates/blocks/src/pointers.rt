@@ -1,5 +1,5 @@
 // The places of a pointer block p by a table t: the slot that comes first, and the places that give a slot.
-use super::Noted;
+use super::PlaceList;
 use places::Places;
 use rules::Place;
 use rules::PlaceNo;
@@ -15,7 +15,7 @@ ghost use Rattle.rules.specs.Copies.{order-by};
 ghost use Rattle.rules.specs.Commands.{is-first};
 ghost use Rattle.jobs.specs.Jobs.{place-room};
 ghost use Rattle.places.specs.Inner.Added.{place-value};
-ghost use Rattle.blocks.specs.Made.{places-noted};
+ghost use Rattle.blocks.specs.Made.{place-list};
 ghost use Rattle.blocks.specs.Inner.Walked.{Readable, places-giving, is-live, noted};
 
 // ---- the slot that comes first
@@ -63,9 +63,16 @@ fn gives(slot: SlotNo, place: Place) -> bool
 // ---- the places that give a slot
 
 // The places that give a slot, which starts there, lowest first.
-pub fn giving(t: &[u8], rows: Rows, p: &[u8], places: Places, slot: SlotNo, start: u64) -> Noted
+pub fn places_giving(
+    t: &[u8],
+    rows: Rows,
+    p: &[u8],
+    places: Places,
+    slot: SlotNo,
+    start: u64,
+) -> PlaceList
     requires { ⌜ Readable (now t) rows (now p) places × (start ≡ getD (starts (now t)) (slot .0) 0) ⌝ }
-    ensures { λ r. ⌜ r ≡ places-noted (places-giving (now (t .entry)) (now (p .entry)) (slot .0)) ⌝ }
+    ensures { λ r. ⌜ r ≡ place-list (places-giving (now (t .entry)) (now (p .entry)) (slot .0)) ⌝ }
 {
     let end = places.free.0;
     let mut numbers = [0; 1016];
@@ -75,11 +82,11 @@ pub fn giving(t: &[u8], rows: Rows, p: &[u8], places: Places, slot: SlotNo, star
         let k = next;
         next += 1;
         if does_give(t, rows, p, places, PlaceNo(k), slot, start) {
-            note(&mut numbers, met, PlaceNo(k));
+            push(&mut numbers, met, PlaceNo(k));
             met += 1;
         }
     }
-    Noted {
+    PlaceList {
         places: numbers,
         count: met,
     }
@@ -111,20 +118,20 @@ fn does_give(
 }
 
 // A place number by itself.
-pub fn one_place(place: PlaceNo) -> Noted
+pub fn one_place(place: PlaceNo) -> PlaceList
     requires { ⌜ place .0 < place-room ⌝ }
-    ensures { λ r. ⌜ r ≡ places-noted (place .0 ∷ []) ⌝ }
+    ensures { λ r. ⌜ r ≡ place-list (place .0 ∷ []) ⌝ }
 {
     let mut numbers = [0; 1016];
-    note(&mut numbers, 0, place);
-    Noted {
+    push(&mut numbers, 0, place);
+    PlaceList {
         places: numbers,
         count: 1,
     }
 }
 
 // A place number as the i-th of a row of numbers of two bytes each, lowest byte first.
-fn note(numbers: &mut [u8], i: usize, place: PlaceNo)
+fn push(numbers: &mut [u8], i: usize, place: PlaceNo)
     requires { ⌜ (length (now numbers) ≡ 2 * place-room) × ((i < place-room) × (place .0 < place-room)) ⌝ }
     ensures { λ _. ⌜ now (numbers .exit) ≡ noted i (place .0) (now (numbers .entry)) ⌝ }
 {

@@ -8,7 +8,7 @@ use Rattle.rules.specs.Commands.{Command}
 use Rattle.rules.specs.Book.{name-bytes, all-proper}
 use Rattle.jobs.specs.declared.Ran.{Ran}
 use Rattle.commands.specs.Begins.{start-result}
-use Rattle.commands.specs.declared.Begun.{Begun}
+use Rattle.commands.specs.declared.StartResult.{StartResult}
 use Rattle.commands.proofs.StartLists.{start-lists}
 use Rattle.joined.specs.Items.{Carried, carried-out, item-of, all-carried-out}
 use Rattle.joined.proofs.Items.{begins-so}
@@ -24,7 +24,7 @@ unfolding as-asked all-carried-out item-of all-proper
 as-carried s img c bytes names done =
     (done, λ agree. demand-3-of-code s img bytes agree (c ∷ []) (names, tt) (done, tt))
 
-module _ (s : Setting) (command : Command) (img : List ℕ) (begun : Begun) where
+module _ (s : Setting) (command : Command) (img : List ℕ) (begun : StartResult) where
   pub carried-by : (first second : ℕ) (r : Ran) (img′ : List ℕ)
       → Bytes img
       → name-bytes command

@@ -9,7 +9,7 @@ use Rattle.rules.specs.Commands.{Command}
 use Rattle.reading.specs.declared.Listed.{Listed}
 use Rattle.jobs.specs.declared.Job.{Job}
 use Rattle.jobs.specs.declared.Ran.{Ran}
-use Rattle.commands.specs.declared.Begun.{Begun}
+use Rattle.commands.specs.declared.StartResult.{StartResult}
 use Rattle.joined.specs.Runs.{Run, all-ran}
 use Rattle.joined.specs.Items.{Carried, carried-out}
 use Rattle.joined.specs.ReadOut.{ReadFrom}
@@ -32,7 +32,7 @@ as-asked s img c = carried-out s img c × (pairs-agree s img ≡ true → Demand
 -- had wiped
 unfoldable pub carried-twice : Setting → Command → List ℕ → ℕ → ℕ → Ran → List ℕ → Type 0
 carried-twice s command img first second r img′ =
-    (begun : Begun) × ((one : Run) × (one .budget ≡ first) × ((wiped : List Bool)
+    (begun : StartResult) × ((one : Run) × (one .budget ≡ first) × ((wiped : List Bool)
     → as-asked s img
     (record { command = command; begun = begun; runs = two-runs one second r img′; wiped = wiped })))
 

@@ -1,7 +1,7 @@
 // Any command carried out by a function: started, and its job run twice. Its contract says that these calls are as the
 // theorem of `joined` asks, so the contracts of `start`, of `jobs::run` and of the readers give what it assumes.
-use commands::Begun;
 use commands::Command;
+use commands::StartResult;
 use jobs::Ran;
 use reading::Listed;
 use rules::Setting;
@@ -9,7 +9,7 @@ ghost use Rattle.commands.specs.Begins.{command-of};
 ghost use Rattle.carried.specs.Carrying.{ran-twice, carried-twice, read-out-by};
 
 // Two runs of the job that a start returned, the second with the job that the first returned.
-pub fn run_twice(begun: Begun, image: &mut [u8], first: usize, second: usize) -> Ran
+pub fn run_twice(begun: StartResult, image: &mut [u8], first: usize, second: usize) -> Ran
     ensures { λ r. ⌜ ran-twice (begun .job) (now (image .entry)) first second r (now (image .exit)) ⌝ }
 {
     let job = begun.job;

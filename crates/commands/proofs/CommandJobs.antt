@@ -13,8 +13,8 @@ use Rattle.rules.specs.Readers.{slot-row, slot-entry}
 use Rattle.rules.specs.Commands.{filled, pointers-of, free-place, is-first, giving, half-cleared-names, put-name, has-already}
 use Rattle.walks.specs.Entries.{entry-at}
 use Rattle.walks.proofs.Entries.{entry-of-rows}
-use Rattle.blocks.specs.Made.{no-steps, pair-rewritten, places-noted, places-written}
-use Rattle.blocks.specs.declared.Noted.{Noted}
+use Rattle.blocks.specs.Made.{no-steps, pair-rewritten, place-list, places-written}
+use Rattle.blocks.specs.declared.PlaceList.{PlaceList}
 use Rattle.commands.specs.JobFor.{reorder-job, in-places-job, enable-job, disable-job, rename-job}
 
 module _ (len g c0 c1 : ℕ) (starts p : List ℕ) (k : ℕ) where
@@ -26,10 +26,10 @@ module _ (len g c0 c1 : ℕ) (starts p : List ℕ) (k : ℕ) where
 
   module _ (f : is-first k (order starts (places p)) ≡ false) (u a : ℕ) (eu : u ≡ free-place starts (places p))
       (ea : a ≡ getD starts k 0) where
-    pub enable-place : (offset : ℕ) (found : Noted) (w : List ℕ)
+    pub enable-place : (offset : ℕ) (found : PlaceList) (w : List ℕ)
         → u < place-count p
         → offset ≡ place-offset p
-        → found ≡ places-noted (u ∷ [])
+        → found ≡ place-list (u ∷ [])
         → w ≡ bytes-of 8 a
         → places-written len g offset c1 c0 found w ≡ enable-job len g c0 c1 starts p k
     unfolding enable-job in-places-job
@@ -52,10 +52,10 @@ module _ (len g c0 c1 : ℕ) (starts p : List ℕ) (k : ℕ) where
     unfolding disable-job reorder-job
     disable-rewrite b t eb = rw (← ea, t, eb)
 
-    pub disable-in-place : (offset : ℕ) (found : Noted) (w : List ℕ)
+    pub disable-in-place : (offset : ℕ) (found : PlaceList) (w : List ℕ)
         → half-cleared-names starts a ≡ false
         → offset ≡ place-offset p
-        → found ≡ places-noted (giving starts k 0 (places p))
+        → found ≡ place-list (giving starts k 0 (places p))
         → w ≡ bytes-of 8 0
         → places-written len g offset c1 c0 found w ≡ disable-job len g c0 c1 starts p k
     unfolding disable-job in-places-job

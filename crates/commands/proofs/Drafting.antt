@@ -15,7 +15,7 @@ use Rattle.jobs.specs.Jobs.{place-room, lent}
 use Rattle.jobs.specs.declared.Job.{Job}
 use Rattle.jobs.specs.declared.Plan.{Plan}
 use Rattle.blocks.specs.Made.{erased-block, no-places, no-value, rewrites-plan, rewrites, no-steps, pair-rewritten, places-plan, places-written}
-use Rattle.blocks.specs.declared.Noted.{Noted}
+use Rattle.blocks.specs.declared.PlaceList.{PlaceList}
 use Rattle.commands.specs.JobFor.{job-for}
 use Rattle.commands.specs.Begins.{job-by}
 use Rattle.commands.specs.Inner.Drafted.{drafted, Sound, Drafts, Means}
@@ -48,7 +48,7 @@ module _ (len granule : ℕ) (p : Plan) (j : Job) where
     sound = ap (λ (q : Plan). q .count) ep;
   }
 
-  pub places-means : (offset at after v : ℕ) (found : Noted) (room : List ℕ)
+  pub places-means : (offset at after v : ℕ) (found : PlaceList) (room : List ℕ)
       → p ≡ places-plan len granule offset at after (found .count)
       → take (2 * place-room) room ≡ found .places
       → places-written len granule offset at after found (bytes-of 8 v) ≡ j

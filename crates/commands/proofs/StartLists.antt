@@ -27,7 +27,7 @@ use Rattle.blocks.proofs.JobSteps.{rewrites-lists, no-steps-lists, pair-lists, 
 use Rattle.blocks.proofs.Walking.{giving-few, giving-below, length-places}
 use Rattle.commands.specs.JobFor.{reorder-job, in-places-job, enable-job, disable-job, rename-job, create-job, delete-job, repair-job, job-for}
 use Rattle.commands.specs.Begins.{returned, job-by, start-result, begins}
-use Rattle.commands.specs.declared.Begun.{Begun}
+use Rattle.commands.specs.declared.StartResult.{StartResult}
 use Rattle.commands.proofs.EqualCopies.{repair-by-copies}
 use Rattle.reading.proofs.Opening.{located}
 
@@ -143,6 +143,6 @@ start-lists s img c = by (view s img) refl
     by (given v) e = unfold _>>=_ in seen-lists s img v e c
 
 -- the same of a value that a start returned
-pub result-begins : (s : Setting) (img : List ℕ) (c : Command) (r : Begun) → r ≡ start-result s img c
+pub result-begins : (s : Setting) (img : List ℕ) (c : Command) (r : StartResult) → r ≡ start-result s img c
     → begins r (length img) (s .granule) (start s img c)
 result-begins s img c r e = rw e (start-lists s img c)

@@ -13,7 +13,7 @@ use Rattle.rules.specs.declared.View.{View}
 use Rattle.jobs.specs.declared.Job.{Job}
 use Rattle.blocks.specs.Made.{Lists, no-job}
 use Rattle.commands.specs.JobFor.{job-for}
-use Rattle.commands.specs.declared.Begun.{Begun}
+use Rattle.commands.specs.declared.StartResult.{StartResult}
 use Rattle.commands.specs.declared.Command.{Command as Asked}
 use Rattle.commands.specs.declared.Command.the-variants.{Enable, Disable, Rename, Create, Delete, Repair}
 use Rattle.commands.specs.declared.Outcome.the-variants.{Started, Refused}
@@ -28,13 +28,13 @@ command-of (Delete slot) name = delete (slot .0)
 command-of Repair name = repair
 
 -- "A refusal returns its number and no job": the job of no steps stands beside it
-abbrev pub refusal : Refusal → Begun
+abbrev pub refusal : Refusal → StartResult
 refusal why = record { job = no-job; answer = Refused why }
 
-abbrev pub started : Job → Begun
+abbrev pub started : Job → StartResult
 started j = record { job = j; answer = Started }
 
-unfoldable pub returned : Answer Job → Begun
+unfoldable pub returned : Answer Job → StartResult
 returned (refused why) = refusal why
 returned (given j) = started j
 
@@ -47,10 +47,10 @@ abbrev pub start-answer : Setting → List ℕ → Command → Answer Job
 start-answer s img c = view s img >>= λ v. job-by s img v c
 
 -- a command started
-unfoldable pub start-result : Setting → List ℕ → Command → Begun
+unfoldable pub start-result : Setting → List ℕ → Command → StartResult
 start-result s img c = returned (start-answer s img c)
 
 -- refused so, or started with a job of these steps, for an image of this length and with this granule
-unfoldable pub begins : Begun → ℕ → ℕ → Answer (List Step) → Type 0
+unfoldable pub begins : StartResult → ℕ → ℕ → Answer (List Step) → Type 0
 begins r len g (refused why) = r ≡ refusal why
 begins r len g (given ss) = (r .answer ≡ Started) × Lists (r .job) len g ss

@@ -13,7 +13,7 @@ use Rattle.rules.specs.Readers.{slot-row}
 use Rattle.rules.specs.Commands.{Command, enable, disable, rename, create, delete, repair, filled, pointers-of, free-place, is-first, giving, half-cleared-names, put-name, has-already, created-start, with-new-row, without-row}
 use Rattle.rules.specs.declared.View.{View}
 use Rattle.jobs.specs.declared.Job.{Job}
-use Rattle.blocks.specs.Made.{Rewriting, rewrites, no-steps, pair-rewritten, places-noted, places-written}
+use Rattle.blocks.specs.Made.{Rewriting, rewrites, no-steps, pair-rewritten, place-list, places-written}
 
 -- for an image of this length and with this granule
 module _ (len granule : ℕ) where
@@ -23,7 +23,7 @@ module _ (len granule : ℕ) where
 
   -- eight bytes into some places, "in CPB1, then in CPB0"
   unfoldable pub in-places-job : ℕ → ℕ → List ℕ → List ℕ → List ℕ → Job
-  in-places-job c0 c1 p ks v = places-written len granule (place-offset p) c1 c0 (places-noted ks) v
+  in-places-job c0 c1 p ks v = places-written len granule (place-offset p) c1 c0 (place-list ks) v
 
   -- as `enable-steps`
   unfoldable pub enable-job : ℕ → ℕ → List ℕ → List ℕ → ℕ → Job

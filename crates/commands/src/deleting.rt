@@ -39,7 +39,7 @@ pub fn delete_by(image: &[u8], setting: Setting, v: View, slot: SlotNo, room: &m
             let listed = slots::rows_of(t);
             let places = places::places_of(p);
             let start = tables::slot_start(t, listed, slot);
-            let found = pointers::giving(t, listed, p, places, slot, start);
+            let found = pointers::places_giving(t, listed, p, places, slot, start);
             if 0 < found.count {
                 return Draft::Refused(Refusal {
                     number: 43,

@@ -40,7 +40,7 @@ pub fn disable_by(image: &[u8], setting: Setting, v: View, slot: SlotNo, room: &
             let rows = slots::rows_of(t);
             let places = places::places_of(p);
             let start = tables::slot_start(t, rows, slot);
-            let found = pointers::giving(t, rows, p, places, slot, start);
+            let found = pointers::places_giving(t, rows, p, places, slot, start);
             if found.count == 0 {
                 return Draft::Refused(Refusal {
                     number: 8,

@@ -1,8 +1,8 @@
 // A draft of bytes into places, and what a start returns by a draft: the job that it stands for.
-use super::Begun;
 use super::Draft;
 use super::Outcome;
-use blocks::Noted;
+use super::StartResult;
+use blocks::PlaceList;
 use blocks::Target;
 use blocks::bytes;
 use blocks::made;
@@ -19,7 +19,7 @@ ghost use Rattle.commands.specs.Begins.{started, returned};
 ghost use Rattle.commands.specs.Inner.Drafted.{drafted, Sound, Means};
 
 // The eight bytes of a number into the places noted, in copy 1 of a pair, then in copy 0.
-pub fn into_places(to: Target, offset: u32, found: Noted, value: u64, room: &mut [u8]) -> Draft
+pub fn into_places(to: Target, offset: u32, found: PlaceList, value: u64, room: &mut [u8]) -> Draft
     requires { ⌜ length (now room) ≡ block-size ⌝ }
     ensures { λ r. ⌜
         Means (now (room .exit)) r
@@ -33,10 +33,10 @@ pub fn into_places(to: Target, offset: u32, found: Noted, value: u64, room: &mut
 
 // ---- the job by a draft
 
-fn started(job: Job) -> Begun
+fn started(job: Job) -> StartResult
     ensures { λ r. ⌜ r ≡ started job ⌝ }
 {
-    Begun {
+    StartResult {
         job: job,
         answer: Outcome::Started,
     }
@@ -67,12 +67,12 @@ fn numbers_in(room: &[u8]) -> [u8; 1016]
 }
 
 // What a start returns: the refusal and no job, or the job with all its arrays.
-pub fn begin(image: &[u8], draft: Draft, room: &[u8]) -> Begun
+pub fn begin(image: &[u8], draft: Draft, room: &[u8]) -> StartResult
     requires { ⌜ Sound (now image) draft × (length (now room) ≡ block-size) ⌝ }
     ensures { λ r. ⌜ r ≡ returned (drafted (now (image .entry)) (now (room .entry)) draft) ⌝ }
 {
     match draft {
-        Draft::Refused(why) => Begun {
+        Draft::Refused(why) => StartResult {
             job: made::no_job(),
             answer: Outcome::Refused(why),
         },

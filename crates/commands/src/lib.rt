@@ -51,13 +51,13 @@ pub enum Draft {
 }
 
 // A start: the job, which is the one of no steps where it was refused, and the answer.
-pub struct Begun {
+pub struct StartResult {
     pub job: Job,
     pub answer: Outcome,
 }
 
 // Any of the commands; only a rename and a create look at the name.
-pub fn start(image: &[u8], setting: Setting, command: Command, name: &[u8]) -> Begun
+pub fn start(image: &[u8], setting: Setting, command: Command, name: &[u8]) -> StartResult
     ensures { λ r. ⌜
         r ≡ start-result setting (now (image .entry)) (command-of command (now (name .entry)))
         ⌝ }
@@ -114,21 +114,21 @@ fn draft_by(
 }
 
 // Enable a slot: it comes first in the boot order.
-pub fn start_enable(image: &[u8], setting: Setting, slot: SlotNo) -> Begun
+pub fn start_enable(image: &[u8], setting: Setting, slot: SlotNo) -> StartResult
     ensures { λ r. ⌜ r ≡ start-result setting (now (image .entry)) (enable (slot .0)) ⌝ }
 {
     start(image, setting, Command::Enable(slot), b"")
 }
 
 // Disable a slot: it leaves the boot order.
-pub fn start_disable(image: &[u8], setting: Setting, slot: SlotNo) -> Begun
+pub fn start_disable(image: &[u8], setting: Setting, slot: SlotNo) -> StartResult
     ensures { λ r. ⌜ r ≡ start-result setting (now (image .entry)) (disable (slot .0)) ⌝ }
 {
     start(image, setting, Command::Disable(slot), b"")
 }
 
 // Rename a slot.
-pub fn start_rename(image: &[u8], setting: Setting, slot: SlotNo, name: &[u8]) -> Begun
+pub fn start_rename(image: &[u8], setting: Setting, slot: SlotNo, name: &[u8]) -> StartResult
     ensures { λ r. ⌜
         r ≡ start-result setting (now (image .entry)) (rename (slot .0) (now (name .entry)))
         ⌝ }
@@ -137,21 +137,21 @@ pub fn start_rename(image: &[u8], setting: Setting, slot: SlotNo, name: &[u8]) -
 }
 
 // Create a slot of a length: it comes last in the table, at the lowest start that is free and that no place holds.
-pub fn start_create(image: &[u8], setting: Setting, name: &[u8], size: u32) -> Begun
+pub fn start_create(image: &[u8], setting: Setting, name: &[u8], size: u32) -> StartResult
     ensures { λ r. ⌜ r ≡ start-result setting (now (image .entry)) (create (now (name .entry)) size) ⌝ }
 {
     start(image, setting, Command::Create(size), name)
 }
 
 // Delete a slot that is not in the boot order: its row goes, and the slots after it are one number lower.
-pub fn start_delete(image: &[u8], setting: Setting, slot: SlotNo) -> Begun
+pub fn start_delete(image: &[u8], setting: Setting, slot: SlotNo) -> StartResult
     ensures { λ r. ⌜ r ≡ start-result setting (now (image .entry)) (delete (slot .0)) ⌝ }
 {
     start(image, setting, Command::Delete(slot), b"")
 }
 
 // Repair: where a pair disagrees, the copy not read becomes the copy read.
-pub fn start_repair(image: &[u8], setting: Setting) -> Begun
+pub fn start_repair(image: &[u8], setting: Setting) -> StartResult
     ensures { λ r. ⌜ r ≡ start-result setting (now (image .entry)) repair ⌝ }
 {
     start(image, setting, Command::Repair, b"")

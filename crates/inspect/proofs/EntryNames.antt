@@ -14,13 +14,13 @@ use Rattle.rules.specs.Table.{Entry, entries-from, entry-count, entries, name, 
 use Rattle.rules.specs.Copies.{view}
 use Rattle.rules.specs.Readers.{table-of, table-part}
 use Rattle.rules.specs.declared.View.{View}
-use Rattle.rules.specs.declared.Facts.{Facts}
+use Rattle.rules.specs.declared.SlotInfo.{SlotInfo}
 use Rattle.rules.specs.Lists.{all}
 use Rattle.rules.proofs.Lists.Tests.{and-true, by-cases, refused-given}
 use Rattle.rules.proofs.Lists.Combinators.{all-at}
 use Rattle.rules.proofs.Table.Standing.{standing}
 use Rattle.reading.proofs.Seen.{seen, table-read-stands}
-use Rattle.inspect.specs.Entries.{entry-there, entry-of, facts-of, info-in, entry-info, name-in, entry-name}
+use Rattle.inspect.specs.Entries.{entry-there, entry-of, info-of, info-in, entry-info, name-in, entry-name}
 
 -- no table has no names
 pub no-entry-name : (i : ℕ) → name-in (entries []) i ≡ []
@@ -35,10 +35,10 @@ module _ (es : List Entry) (i : ℕ) where
   no-name-there {why} e = by-there (entry-there es i) refl
     where
       by-there : (b : Bool) → entry-there es i ≡ b → name-in es i ≡ []
-      by-there true t = absurd (refused-given why (facts-of es i) (sym e ∙ rw t))
+      by-there true t = absurd (refused-given why (info-of es i) (sym e ∙ rw t))
       by-there false t = rw t
 
-  a-name-there : {f : Facts} → all name-right es ≡ true → info-in es i ≡ given f → 0 < length (name-in es i)
+  a-name-there : {f : SlotInfo} → all name-right es ≡ true → info-in es i ≡ given f → 0 < length (name-in es i)
   unfolding info-in name-in unless name-right entry-there
   a-name-there {f} right e = by-there (entry-there es i) refl
     where
@@ -60,7 +60,7 @@ module _ (s : Setting) (img : List ℕ) (i : ℕ) where
       by-view (refused why) w = rw w (no-entry-name i)
       by-view (given v) w = rw w (no-name-there (entries (block img (v .table))) i (rw w at e))
 
-  pub name-some : {f : Facts} → entry-info s img i ≡ given f → 0 < length (entry-name s img i)
+  pub name-some : {f : SlotInfo} → entry-info s img i ≡ given f → 0 < length (entry-name s img i)
   unfolding entry-info entry-name table-part table-of _>>=_
   name-some {f} e = by-view (view s img) refl
     where

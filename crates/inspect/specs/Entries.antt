@@ -10,7 +10,7 @@ use Rattle.rules.specs.declared.Setting.{Setting}
 use Rattle.rules.specs.Table.{Entry, entry-count, entries, name, no-entry}
 use Rattle.rules.specs.Copies.{view}
 use Rattle.rules.specs.Readers.{table-part}
-use Rattle.rules.specs.declared.Facts.{Facts}
+use Rattle.rules.specs.declared.SlotInfo.{SlotInfo}
 
 -- refusals 1, 2, 3, 50, 51 and 5, or the number of entries
 unfoldable pub entry-total : Setting → List ℕ → Answer ℕ
@@ -24,19 +24,19 @@ entry-there es i = ltb i (length es)
 abbrev pub entry-of : List Entry → ℕ → Entry
 entry-of es i = getD es i no-entry
 
-unfoldable pub facts-of : List Entry → ℕ → Facts
-facts-of es i = record {
+unfoldable pub info-of : List Entry → ℕ → SlotInfo
+info-of es i = record {
   entry = record { 0 = i };
   start = entry-of es i .start;
   size = entry-of es i .size;
   flags = entry-of es i .flags;
 }
 
-unfoldable pub info-in : List Entry → ℕ → Answer Facts
-info-in es i = unless 92 (entry-there es i) (given (facts-of es i))
+unfoldable pub info-in : List Entry → ℕ → Answer SlotInfo
+info-in es i = unless 92 (entry-there es i) (given (info-of es i))
 
 -- refusals 1, 2, 3, 50, 51, 5 and 92, or what is known of an entry beside its name
-unfoldable pub entry-info : Setting → List ℕ → ℕ → Answer Facts
+unfoldable pub entry-info : Setting → List ℕ → ℕ → Answer SlotInfo
 entry-info s img i = view s img >>= λ v. info-in (entries (block img (v .table))) i
 
 unfoldable pub name-in : List Entry → ℕ → List ℕ

@@ -3,10 +3,10 @@ use super::Total;
 use reading::Known;
 use reading::Viewed;
 use rules::EntryNo;
-use rules::Facts;
 use rules::NO_FAULT;
 use rules::Refusal;
 use rules::Setting;
+use rules::SlotInfo;
 ghost use mathlib.Core.Path.{_≡_};
 ghost use Rattle.rules.specs.Table.{entry-count, entries};
 ghost use Rattle.reading.specs.Answers.{known};
@@ -68,7 +68,7 @@ fn info_in(t: &[u8], entry: EntryNo) -> Known
             fault1: NO_FAULT,
         });
     }
-    Known::Is(Facts {
+    Known::Is(SlotInfo {
         entry: entry,
         start: entries::entry_start(t, entry),
         size: entries::entry_size(t, entry),

@@ -70,7 +70,7 @@ fn run_parts(bytes: &[u8], image: &mut [u8], budget: usize) -> Did
         × (now (image .exit) ≡ image-after-run (job-from (now (bytes .entry))) budget (now (image .entry)))
         ⌝ }
 {
-    jobs::run_lent(
+    jobs::run_in_place(
         plan_from(bytes),
         done_from(bytes),
         &bytes[super::FIRST_BLOCK_AT..super::SECOND_BLOCK_AT],

@@ -71,7 +71,7 @@ pub fn do_places<'a>(
         (now (image .entry)))
         ⌝ }
 {
-    let end = numbers::least(count, PLACE_ROOM);
+    let end = numbers::min(count, PLACE_ROOM);
     let mut rest = window;
     let mut i = 0;
     while i < end {
@@ -93,7 +93,7 @@ pub fn are_inside(
     requires { ⌜ length (now places) ≡ 2 * place-room ⌝ }
     ensures { λ r. ⌜ r ≡ places-inside len at offset from (meant count (now (places .entry))) ⌝ }
 {
-    let end = numbers::least(count, PLACE_ROOM);
+    let end = numbers::min(count, PLACE_ROOM);
     let mut skip = from;
     let mut i = 0;
     while i < end {
@@ -101,7 +101,7 @@ pub fn are_inside(
         if !programs::are_inside(len, place_address(at, offset, place), 8, skip) {
             return false;
         }
-        skip = numbers::less(skip, 8);
+        skip = numbers::saturating_sub(skip, 8);
         i += 1;
     }
     true
@@ -122,7 +122,7 @@ pub fn next_in_places<'a>(
         ⌝ }
 {
     let i = from / 8;
-    if numbers::least(count, PLACE_ROOM) <= i {
+    if numbers::min(count, PLACE_ROOM) <= i {
         return Next::Finished;
     }
     let place = place_at(places, i);

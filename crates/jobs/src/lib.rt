@@ -75,7 +75,7 @@ pub fn run(job: Job, image: &mut [u8], budget: usize) -> Ran
     let second = job.second;
     let places = job.places;
     let value = job.value;
-    let did = run_lent(plan, done, &first, &second, &places, &value, image, budget);
+    let did = run_in_place(plan, done, &first, &second, &places, &value, image, budget);
     returned(job, did)
 }
 
@@ -101,7 +101,7 @@ fn returned(job: Job, did: Did) -> Ran
 }
 
 // The same of a job whose arrays are lent, so that none is copied: only what it did and the image.
-pub fn run_lent<'a>(
+pub fn run_in_place<'a>(
     plan: Plan,
     done: usize,
     first: &'a [u8],
@@ -143,7 +143,7 @@ pub fn run_lent<'a>(
         n: budget,
     };
     parts::do_steps(plan, first, second, places, value, window, image);
-    Did::Steps(numbers::least(budget, count - done))
+    Did::Steps(numbers::min(budget, count - done))
 }
 
 // How many steps remain.
@@ -158,7 +158,7 @@ pub fn remaining(job: Job) -> usize
 pub fn remaining_of(plan: Plan, done: usize) -> usize
     ensures { λ r. ⌜ r ≡ listed-length plan - done ⌝ }
 {
-    numbers::less(parts::step_count(plan), done)
+    numbers::saturating_sub(parts::step_count(plan), done)
 }
 
 // Which step comes next.
@@ -213,5 +213,5 @@ pub fn counted_of(plan: Plan, done: usize, n: usize) -> Did
             fault1: NO_FAULT,
         });
     }
-    Did::Steps(numbers::least(n, left))
+    Did::Steps(numbers::min(n, left))
 }

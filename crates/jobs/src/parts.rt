@@ -26,7 +26,7 @@ fn part_length(kind: Kind, count: usize) -> usize
     match kind {
         Kind::Nothing => 0,
         Kind::Rewrite => REWRITE_STEPS,
-        Kind::Places => 8 * numbers::least(count, into_places::PLACE_ROOM),
+        Kind::Places => 8 * numbers::min(count, into_places::PLACE_ROOM),
     }
 }
 
@@ -59,7 +59,7 @@ pub fn steps_inside(plan: Plan, places: &[u8], from: usize, len: usize) -> bool
 {
     let first = plan.first;
     let second = plan.second;
-    let rest = numbers::less(from, part_length(first, plan.count));
+    let rest = numbers::saturating_sub(from, part_length(first, plan.count));
     part_inside(len, plan, first, plan.at, places, from)
         & part_inside(len, plan, second, plan.after, places, rest)
 }

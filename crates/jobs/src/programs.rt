@@ -29,7 +29,7 @@ pub fn do_range(image: &mut [u8], at: usize, given: &[u8], window: Window) -> Wi
     if size <= from {
         return rest;
     }
-    let m = numbers::least(window.n, size - from);
+    let m = numbers::min(window.n, size - from);
     device::program(image, at + from, &given[from..from + m]);
     rest
 }

@@ -55,12 +55,12 @@ pub fn is_inside(granule: usize, len: usize, at: usize, from: usize) -> bool
     requires { ⌜ at ≤ highest-address ⌝ }
     ensures { λ r. ⌜ r ≡ rewrite-inside granule len at from ⌝ }
 {
-    let after = numbers::less(from, 4);
-    let skip = numbers::less(after, 1);
+    let after = numbers::saturating_sub(from, 4);
+    let skip = numbers::saturating_sub(after, 1);
     programs::are_inside(len, at, 4, from)
         & (((1 <= after) | numbers::ends_by(at, granule, len))
             & (programs::are_inside(len, at + 4, REST_SIZE, skip)
-                & programs::are_inside(len, at, 4, numbers::less(skip, REST_SIZE))))
+                & programs::are_inside(len, at, 4, numbers::saturating_sub(skip, REST_SIZE))))
 }
 
 // The first of them.

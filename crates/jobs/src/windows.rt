@@ -13,7 +13,7 @@ pub fn beyond(window: Window, size: usize) -> Window
     ensures { λ r. ⌜ r ≡ beyond size window ⌝ }
 {
     Window {
-        from: numbers::less(window.from, size),
-        n: numbers::less(window.n, numbers::less(size, window.from)),
+        from: numbers::saturating_sub(window.from, size),
+        n: numbers::saturating_sub(window.n, numbers::saturating_sub(size, window.from)),
     }
 }

@@ -18,13 +18,13 @@ use Rattle.rules.proofs.Claim.Viewing.{viewed, beginning, holds-at-first}
 use Rattle.rules.proofs.Claim.OneItem.{one-item}
 use Rattle.rules.proofs.Claim.EveryJob.{the-commands-right}
 use Rattle.commands.specs.Begins.{begins}
-use Rattle.commands.specs.declared.Begun.{Begun}
+use Rattle.commands.specs.declared.StartResult.{StartResult}
 use Rattle.joined.specs.Runs.{all-ran, left-by-runs}
 use Rattle.joined.specs.Items.{Carried, begun-so, carried-out, flash-left, ended-as, ending, item-of}
 use Rattle.joined.proofs.Runs.{runs-of-job, nothing-done}
 
 -- what the contract of a start gives is enough
-pub begins-so : (b : Begun) (len g : ℕ) (a : Answer (List Step)) → begins b len g a → begun-so b len g a
+pub begins-so : (b : StartResult) (len g : ℕ) (a : Answer (List Step)) → begins b len g a → begun-so b len g a
 unfolding begins begun-so
 begins-so b len g (refused why) e = (why, e, refl)
 begins-so b len g (given ss) h = h

@@ -13,7 +13,7 @@ use Rattle.rules.specs.Book.{the-commands, Item, Outcome, was-refused, how-ende
 use Rattle.rules.specs.declared.Step.{Step}
 use Rattle.blocks.specs.Made.{Lists}
 use Rattle.commands.specs.Begins.{refusal}
-use Rattle.commands.specs.declared.Begun.{Begun}
+use Rattle.commands.specs.declared.StartResult.{StartResult}
 use Rattle.commands.specs.declared.Outcome.{Outcome as Answered}
 use Rattle.commands.specs.declared.Outcome.the-variants.{Started, Refused}
 use Rattle.joined.specs.Runs.{Run, all-ran, left-by-runs}
@@ -21,13 +21,13 @@ use Rattle.joined.specs.Runs.{Run, all-ran, left-by-runs}
 -- a command, what its start returned, the runs, and which bytes a power failure inside an erase had wiped
 pub record Carried : Type 0 where
   pub command : Command
-  pub begun : Begun
+  pub begun : StartResult
   pub runs : List Run
   pub wiped : List Bool
 
 -- a start was refused with the number of that refusal, and the job of no steps stands beside it; or it returned a job of
 -- these steps, for an image of this length and with this granule
-unfoldable pub begun-so : Begun → ℕ → ℕ → Answer (List Step) → Type 0
+unfoldable pub begun-so : StartResult → ℕ → ℕ → Answer (List Step) → Type 0
 begun-so b len g (refused why) = (told : Refusal) × (b ≡ refusal told) × (told .number ≡ why .number)
 begun-so b len g (given ss) = (b .answer ≡ Started) × Lists (b .job) len g ss
 

@@ -20,7 +20,7 @@ use Rattle.jobs.specs.declared.Did.the-variants.{Steps, Refused}
 use Rattle.jobs.specs.declared.Ran.{Ran}
 use Rattle.jobs.proofs.Running.{run-returned}
 use Rattle.blocks.specs.Made.{Lists, no-job}
-use Rattle.commands.specs.declared.Begun.{Begun}
+use Rattle.commands.specs.declared.StartResult.{StartResult}
 use Rattle.job_bytes.specs.Form.{job-size, malformed, job-from, holds-job, decoded}
 use Rattle.linked.specs.Begun.{for-job, begun-as}
 use Rattle.linked.specs.Ran.{Lent, lent, Running, running, ran-as}

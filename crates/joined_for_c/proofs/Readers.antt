@@ -6,7 +6,7 @@ use lib.ListN.{length}
 use Rattle.rules.specs.Answers.{Answer, given, _>>=_}
 use Rattle.rules.specs.declared.Setting.{Setting}
 use Rattle.rules.specs.Copies.{view}
-use Rattle.rules.specs.Readers.{order-list, slot-count, slot-facts, slot-name, table-of, table-part}
+use Rattle.rules.specs.Readers.{order-list, slot-count, slot-info, slot-name, table-of, table-part}
 use Rattle.rules.specs.Book.{Reading, read-by, reading}
 use Rattle.rules.proofs.Lists.Tests.{bind-given, given-inj}
 use Rattle.linked.specs.Answered.{Written}
@@ -15,7 +15,7 @@ use Rattle.joined_for_c.specs.Claim.{AnswersForC}
 
 module _ (s : Setting) (img : List ℕ) (r : Reading) where
   pub readers-for-c-answer : reading s img ≡ given r → AnswersForC s img r
-  unfolding reading read-by slot-count slot-facts slot-name table-part table-of _>>=_
+  unfolding reading read-by slot-count slot-info slot-name table-part table-of _>>=_
   readers-for-c-answer e =
       let (v, ev, q) = bind-given (view s img) _ r e in
       let table = ap (λ (x : Reading). x .table) (given-inj (read-by img v) r q) in

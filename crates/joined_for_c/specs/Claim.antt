@@ -6,7 +6,7 @@ use lib.ListN.{length}
 use Rattle.rules.specs.Answers.{given, unless}
 use Rattle.rules.specs.declared.Setting.{Setting}
 use Rattle.rules.specs.Table.{entries, slots}
-use Rattle.rules.specs.Readers.{order-list, slot-count, slot-there, facts, slot-facts, name-in, slot-name}
+use Rattle.rules.specs.Readers.{order-list, slot-count, slot-there, info, slot-info, name-in, slot-name}
 use Rattle.rules.specs.Book.{Reading}
 use Rattle.linked.specs.Answered.{Written}
 use Rattle.joined.specs.Claim.{Demand3-as-told}
@@ -23,7 +23,7 @@ pub record AnswersForC (s : Setting) (img : List ℕ) (r : Reading) : Type 0 whe
   -- table
   pub slot-total : slot-count s img ≡ given (length (slots (entries (r .table))))
   pub slot-known : (k : ℕ)
-      → slot-facts s img k ≡ unless 7 (slot-there (entries (r .table)) k) (given (facts (entries (r .table)) k))
+      → slot-info s img k ≡ unless 7 (slot-there (entries (r .table)) k) (given (info (entries (r .table)) k))
   pub slot-named : (k : ℕ) → slot-name s img k ≡ name-in (entries (r .table)) k
 
 abbrev pub Demand3-for-c : Setting → List ℕ → List CarriedForC → Type 0

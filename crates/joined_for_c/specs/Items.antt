@@ -11,7 +11,7 @@ use Rattle.rules.specs.Commands.{Command, start}
 use Rattle.jobs.specs.declared.Did.{Did}
 use Rattle.jobs.specs.declared.Did.the-variants.{Steps, Refused}
 use Rattle.commands.specs.Begins.{refusal, started}
-use Rattle.commands.specs.declared.Begun.{Begun}
+use Rattle.commands.specs.declared.StartResult.{StartResult}
 use Rattle.job_bytes.specs.Form.{job-size, job-from}
 use Rattle.linked.specs.Begun.{for-job, begun-as}
 use Rattle.linked.specs.Ran.{Lent, lent, running, ran-as}
@@ -76,7 +76,7 @@ run-by-value r = record {
   image = r .left .image;
 }
 
-unfoldable pub begun-by-value : ℕ → List ℕ → Begun
+unfoldable pub begun-by-value : ℕ → List ℕ → StartResult
 begun-by-value zero bytes = started (job-from bytes)
 begun-by-value (suc n) bytes = refusal (numbered (suc n))
 

@@ -15,7 +15,7 @@ use Rattle.jobs.specs.declared.Plan.{Plan}
 use Rattle.jobs.specs.declared.Job.{Job}
 use Rattle.blocks.specs.Made.{Lists}
 use Rattle.commands.specs.Begins.{begins, start-result}
-use Rattle.commands.specs.declared.Begun.{Begun}
+use Rattle.commands.specs.declared.StartResult.{StartResult}
 use Rattle.commands.proofs.StartLists.{start-lists}
 use Rattle.job_bytes.specs.Form.{job-size, malformed, decoded, job-over, encoded-over, Same}
 use Rattle.job_bytes.proofs.RoundTrip.{Typed, decoded-encoded}
@@ -26,11 +26,11 @@ use Rattle.linked.proofs.StartTyped.{start-typed}
 -- ---- what a function for C returns and leaves
 
 module _ (before : List ℕ) where
-  pub other-length : (b : Begun) → (length before ≡ job-size → ⊥) → handed malformed before ≡ started-into before b
+  pub other-length : (b : StartResult) → (length before ≡ job-size → ⊥) → handed malformed before ≡ started-into before b
   unfolding started-into
   other-length b h = rw (ne-eqb (length before) job-size h)
 
-  pub right-length : (b : Begun) (h : Handed)
+  pub right-length : (b : StartResult) (h : Handed)
       → length before ≡ job-size
       → h ≡ handed-over before (b .job) (b .answer)
       → h ≡ started-into before b
@@ -47,7 +47,7 @@ lists-same j j′ len granule ss same lists = record {
   none-done = same .done ∙ lists .none-done;
 }
 
-module _ (before : List ℕ) (whole : length before ≡ job-size) (len granule : ℕ) (b : Begun) (typed : Typed (b .job))
+module _ (before : List ℕ) (whole : length before ≡ job-size) (len granule : ℕ) (b : StartResult) (typed : Typed (b .job))
     (r : ℕ) (after : List ℕ) (e : handed r after ≡ handed-over before (b .job) (b .answer)) where
   holds-by : (a : Answer (List Step)) → begins b len granule a → begun-as r before after len granule a
   unfolding begins begun-as handed-over encoded-over

@@ -6,7 +6,7 @@ use native.Mathlib.Omega.{arith}
 use lib.ListN.{length, length-replicate}
 use Rattle.rules.specs.Bytes.{block-size, erased-byte}
 use Rattle.jobs.specs.Jobs.{place-room}
-use Rattle.blocks.specs.Made.{Rewriting, erased-block, rewrites, no-steps, pair-rewritten, places-noted, places-written}
+use Rattle.blocks.specs.Made.{Rewriting, erased-block, rewrites, no-steps, pair-rewritten, place-list, places-written}
 use Rattle.blocks.proofs.Noting.{length-noted}
 use Rattle.job_bytes.proofs.RoundTrip.{Typed}
 
@@ -47,12 +47,12 @@ module _ (len granule : ℕ) (short : len < 2 ^ 64) (fine : granule < 2 ^ 64) wh
         → offset < 2 ^ 32
         → length ks ≤ place-room
         → length v ≡ 8
-        → Typed (places-written len granule offset a1 a0 (places-noted ks) v)
+        → Typed (places-written len granule offset a1 a0 (place-list ks) v)
     unfolding places-written
     places-typed offset ks v small room eight = record {
       len = short;
       granule = fine;
-      count = unfold places-noted in omega arith;
+      count = unfold place-list in omega arith;
       done = omega arith;
       offset = small;
       at = small1;

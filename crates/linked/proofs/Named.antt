@@ -9,26 +9,26 @@ use borrow.Author.Tests.{le-leb, lt-leb}
 use Rattle.rules.specs.Answers.{Answer, refused, given, unless, _>>=_, numbered}
 use Rattle.rules.specs.declared.Refusal.{Refusal}
 use Rattle.rules.specs.declared.Setting.{Setting}
-use Rattle.rules.specs.Readers.{row-after, slot-facts, slot-name}
-use Rattle.rules.specs.declared.Facts.{Facts}
+use Rattle.rules.specs.Readers.{row-after, slot-info, slot-name}
+use Rattle.rules.specs.declared.SlotInfo.{SlotInfo}
 use Rattle.text.specs.Put.{Put}
 use Rattle.linked.specs.Answered.{Written, too-few, name-answer}
 use Rattle.linked.proofs.Numbered.{number-refused, kept-refused}
 
 module _ (s : Setting) (img : List ℕ) (k room : ℕ) where
-  pub name-refused : {why : Refusal} → refused why ≡ slot-facts s img k → refused why ≡ name-answer s img k room
+  pub name-refused : {why : Refusal} → refused why ≡ slot-info s img k → refused why ≡ name-answer s img k room
   unfolding name-answer _>>=_
   name-refused e = rw (← e)
 
-  pub name-too-long : {f : Facts}
-      → given f ≡ slot-facts s img k
+  pub name-too-long : {f : SlotInfo}
+      → given f ≡ slot-info s img k
       → room < length (slot-name s img k)
       → refused (numbered too-few) ≡ name-answer s img k room
   unfolding name-answer _>>=_ unless
   name-too-long e h = rw (← e, lt-leb (length (slot-name s img k)) room h)
 
-  pub name-given : {f : Facts}
-      → given f ≡ slot-facts s img k
+  pub name-given : {f : SlotInfo}
+      → given f ≡ slot-info s img k
       → length (slot-name s img k) ≤ room
       → given (slot-name s img k) ≡ name-answer s img k room
   unfolding name-answer _>>=_ unless

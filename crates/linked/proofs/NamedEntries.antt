@@ -8,7 +8,7 @@ use Rattle.rules.specs.Answers.{Answer, refused, given, unless, _>>=_, numbered
 use Rattle.rules.specs.declared.Refusal.{Refusal}
 use Rattle.rules.specs.declared.Setting.{Setting}
 use Rattle.rules.specs.Readers.{row-after}
-use Rattle.rules.specs.declared.Facts.{Facts}
+use Rattle.rules.specs.declared.SlotInfo.{SlotInfo}
 use Rattle.inspect.specs.Entries.{entry-info, entry-name}
 use Rattle.linked.specs.Answered.{number, kept}
 use Rattle.linked.specs.Inspected.{NamedEntry, named-entry, name-of}
@@ -19,17 +19,17 @@ module _ (s : Setting) (img : List ℕ) (i room : ℕ) where
   unfolding named-entry _>>=_
   entry-refused e = rw (← e)
 
-  pub entry-name-too-long : {f : Facts}
+  pub entry-name-too-long : {f : SlotInfo}
       → given f ≡ entry-info s img i
       → room < length (entry-name s img i)
       → refused (numbered 91) ≡ named-entry s img i room
   unfolding named-entry _>>=_ unless
   entry-name-too-long e h = rw (← e, lt-leb (length (entry-name s img i)) room h)
 
-  pub entry-given : {f : Facts}
+  pub entry-given : {f : SlotInfo}
       → given f ≡ entry-info s img i
       → length (entry-name s img i) ≤ room
-      → given (record { name = entry-name s img i; facts = f }) ≡ named-entry s img i room
+      → given (record { name = entry-name s img i; info = f }) ≡ named-entry s img i room
   unfolding named-entry _>>=_ unless
   entry-given e h = rw (← e, le-leb (length (entry-name s img i)) room h)
 
@@ -42,9 +42,9 @@ module _ {a : Answer NamedEntry} (row : List ℕ) where
       → (why .number ≡ number a)
       × ((row ≡ row-after (name-of a) row)
       × ((count ≡ kept (λ e. length (e .name)) a count)
-      × ((start ≡ kept (λ e. e .facts .start) a start)
-      × ((size ≡ kept (λ e. e .facts .size) a size)
-      × (flags ≡ kept (λ e. e .facts .flags) a flags)))))
+      × ((start ≡ kept (λ e. e .info .start) a start)
+      × ((size ≡ kept (λ e. e .info .size) a size)
+      × (flags ≡ kept (λ e. e .info .flags) a flags)))))
   unfolding name-of row-after _>>=_
   entry-kept count start size flags e = (
     number-refused e,
@@ -53,10 +53,10 @@ module _ {a : Answer NamedEntry} (row : List ℕ) where
       (
         kept-refused (λ e. length (e .name)) count e,
         (
-          kept-refused (λ e. e .facts .start) start e,
+          kept-refused (λ e. e .info .start) start e,
           (
-            kept-refused (λ e. e .facts .size) size e,
-            kept-refused (λ e. e .facts .flags) flags e,
+            kept-refused (λ e. e .info .size) size e,
+            kept-refused (λ e. e .info .flags) flags e,
           ),
         ),
       ),

@@ -6,7 +6,7 @@ use lib.Dec.{leb}
 use lib.ListN.{length}
 use Rattle.rules.specs.Answers.{Answer, refused, given, unless, _>>=_}
 use Rattle.rules.specs.declared.Setting.{Setting}
-use Rattle.rules.specs.Readers.{row-after, slot-facts, slot-name}
+use Rattle.rules.specs.Readers.{row-after, slot-info, slot-name}
 
 -- 0, or the number of the refusal, which is never 0
 unfoldable pub number : {A : Type 0} → Answer A → ℕ
@@ -31,5 +31,5 @@ too-few = 91
 -- the name of a slot, or why there is none
 unfoldable pub name-answer : Setting → List ℕ → ℕ → ℕ → Answer (List ℕ)
 name-answer s img k room =
-    slot-facts s img k
+    slot-info s img k
     >>= λ f. unless too-few (leb (length (slot-name s img k)) room) (given (slot-name s img k))

@@ -9,7 +9,7 @@ use Rattle.rules.specs.Answers.{Answer, refused, given, unless}
 use Rattle.rules.specs.declared.Step.{Step}
 use Rattle.jobs.specs.declared.Job.{Job}
 use Rattle.blocks.specs.Made.{Lists}
-use Rattle.commands.specs.declared.Begun.{Begun}
+use Rattle.commands.specs.declared.StartResult.{StartResult}
 use Rattle.commands.specs.declared.Outcome.{Outcome}
 use Rattle.commands.specs.declared.Outcome.the-variants.{Started, Refused}
 use Rattle.job_bytes.specs.Form.{job-size, malformed, decoded, encoded-over}
@@ -28,7 +28,7 @@ handed-over before j (Refused why) = handed (why .number) before
 handed-over before j Started = handed 0 (encoded-over before j)
 
 -- a command's start over bytes: refused 90 where the buffer has another length than a job's
-unfoldable pub started-into : List ℕ → Begun → Handed
+unfoldable pub started-into : List ℕ → StartResult → Handed
 started-into before b =
     cond (eqb (length before) job-size) (handed-over before (b .job) (b .answer)) (handed malformed before)
 

@@ -242,17 +242,17 @@ pub extern "C" fn delunkpawi_entry(
         (now (count .entry))
         ⌝ }
     ensures { λ _. ⌜
-        now (start .exit) ≡ kept (λ e. e .facts .start)
+        now (start .exit) ≡ kept (λ e. e .info .start)
         (named-entry (setting granule spt0 spt1) (now (image .entry)) entry (length (now (name .entry))))
         (now (start .entry))
         ⌝ }
     ensures { λ _. ⌜
-        now (size .exit) ≡ kept (λ e. e .facts .size)
+        now (size .exit) ≡ kept (λ e. e .info .size)
         (named-entry (setting granule spt0 spt1) (now (image .entry)) entry (length (now (name .entry))))
         (now (size .entry))
         ⌝ }
     ensures { λ _. ⌜
-        now (flags .exit) ≡ kept (λ e. e .facts .flags)
+        now (flags .exit) ≡ kept (λ e. e .info .flags)
         (named-entry (setting granule spt0 spt1) (now (image .entry)) entry (length (now (name .entry))))
         (now (flags .entry))
         ⌝ }

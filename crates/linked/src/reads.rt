@@ -7,7 +7,7 @@ use rules::SlotNo;
 ghost use mathlib.Core.Path.{_≡_};
 ghost use lib.ListN.{length};
 ghost use Rattle.rules.specs.Numbers.{setting};
-ghost use Rattle.rules.specs.Readers.{order-list, slot-count, slot-facts};
+ghost use Rattle.rules.specs.Readers.{order-list, slot-count, slot-info};
 ghost use Rattle.linked.specs.Answered.{number, kept, Written, name-answer};
 
 // The boot order's slot numbers into the front of the row, and how many there are.
@@ -83,22 +83,22 @@ pub extern "C" fn delunkpawi_slot_facts(
     size: &mut u64,
     flags: &mut u64,
 ) -> u8
-    ensures { λ r. ⌜ r ≡ number (slot-facts (setting granule spt0 spt1) (now (image .entry)) slot) ⌝ }
+    ensures { λ r. ⌜ r ≡ number (slot-info (setting granule spt0 spt1) (now (image .entry)) slot) ⌝ }
     ensures { λ _. ⌜
         now (entry .exit)
-        ≡ kept (λ f. f .entry .0) (slot-facts (setting granule spt0 spt1) (now (image .entry)) slot) (now (entry .entry))
+        ≡ kept (λ f. f .entry .0) (slot-info (setting granule spt0 spt1) (now (image .entry)) slot) (now (entry .entry))
         ⌝ }
     ensures { λ _. ⌜
         now (start .exit)
-        ≡ kept (λ f. f .start) (slot-facts (setting granule spt0 spt1) (now (image .entry)) slot) (now (start .entry))
+        ≡ kept (λ f. f .start) (slot-info (setting granule spt0 spt1) (now (image .entry)) slot) (now (start .entry))
         ⌝ }
     ensures { λ _. ⌜
         now (size .exit)
-        ≡ kept (λ f. f .size) (slot-facts (setting granule spt0 spt1) (now (image .entry)) slot) (now (size .entry))
+        ≡ kept (λ f. f .size) (slot-info (setting granule spt0 spt1) (now (image .entry)) slot) (now (size .entry))
         ⌝ }
     ensures { λ _. ⌜
         now (flags .exit)
-        ≡ kept (λ f. f .flags) (slot-facts (setting granule spt0 spt1) (now (image .entry)) slot) (now (flags .entry))
+        ≡ kept (λ f. f .flags) (slot-info (setting granule spt0 spt1) (now (image .entry)) slot) (now (flags .entry))
         ⌝ }
 {
     let setting = Setting {
@@ -106,7 +106,7 @@ pub extern "C" fn delunkpawi_slot_facts(
         spt0: spt0,
         spt1: spt1,
     };
-    let known = reading::slot_facts(image, setting, SlotNo(slot));
+    let known = reading::slot_info(image, setting, SlotNo(slot));
     match known {
         Known::Refused(why) => why.number,
         Known::Is(f) => {
@@ -141,7 +141,7 @@ pub extern "C" fn delunkpawi_slot_name(
         spt0: spt0,
         spt1: spt1,
     };
-    let known = reading::slot_facts(image, setting, SlotNo(slot));
+    let known = reading::slot_info(image, setting, SlotNo(slot));
     match known {
         Known::Refused(why) => why.number,
         Known::Is(_) => {

@@ -18,7 +18,7 @@ ghost use Rattle.slots.specs.Inner.RowsOf.{HasRows};
 ghost use Rattle.slots.specs.Inner.Four.{one-of-four};
 ghost use Rattle.places.specs.Inner.StandingPointers.{StandingPointers};
 ghost use Rattle.places.specs.Inner.PlacesOf.{free-from, places-of, HasPlaces};
-ghost use Rattle.places.specs.Inner.Added.{held-from, held-above, added-at, place-value};
+ghost use Rattle.places.specs.Inner.Added.{held-from, occurs-above, added-at, place-value};
 
 // The three named fields of a block that stands and are fixed: the magic, the header's size and the block's size.
 const MAGIC: u64 = 0x57789609;
@@ -209,9 +209,9 @@ pub fn judge(t: &[u8], rows: Rows, v: u64) -> Place
 }
 
 // A place above this one has the value, which is not that of an erased place.
-pub fn held_above(p: &[u8], places: Places, place: PlaceNo, v: u64) -> bool
+pub fn occurs_above(p: &[u8], places: Places, place: PlaceNo, v: u64) -> bool
     requires { ⌜ (HasPlaces (now p) places × (place .0 < places .count)) × (all-ones v ≡ false) ⌝ }
-    ensures { λ r. ⌜ r ≡ held-above (now (p .entry)) (place .0) v ⌝ }
+    ensures { λ r. ⌜ r ≡ occurs-above (now (p .entry)) (place .0) v ⌝ }
 {
     let end = places.free.0;
     let mut k = not_held_to(p, places, place, v).0;
@@ -227,7 +227,7 @@ pub fn held_above(p: &[u8], places: Places, place: PlaceNo, v: u64) -> bool
 // The place from which on to look for the value, found four places at a time: none between this one and that has it.
 fn not_held_to(p: &[u8], places: Places, place: PlaceNo, v: u64) -> PlaceNo
     requires { ⌜ HasPlaces (now p) places × (place .0 < places .count) ⌝ }
-    ensures { λ r. ⌜ held-above (now (p .entry)) (place .0) v ≡ held-from (now (p .entry)) (r .0) v ⌝ }
+    ensures { λ r. ⌜ occurs-above (now (p .entry)) (place .0) v ≡ held-from (now (p .entry)) (r .0) v ⌝ }
 {
     let end = places.free.0;
     let mut to = place.0 + 1;
@@ -262,7 +262,7 @@ pub fn added_by(t: &[u8], rows: Rows, p: &[u8], places: Places, place: PlaceNo) 
         Place::Erased => Added::Nothing,
         Place::Spent => Added::Nothing,
         Place::Live(s) => {
-            if held_above(p, places, place, v) {
+            if occurs_above(p, places, place, v) {
                 return Added::Nothing;
             }
             Added::Slot(s)

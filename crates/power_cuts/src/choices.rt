@@ -1,6 +1,6 @@
 // The choices of bytes that are tried inside an erase: each of the first 32 bytes alone, all but each of these, 64 by a
 // seed, the even ones, the odd ones, and in steps of 64 the lowest, from none on, and the highest, from all down.
-use bench::tearing::Choice;
+use harness::tearing::Choice;
 
 const STRIDE: usize = 64;
 

@@ -5,11 +5,11 @@
 // is finished. A line for each command says how many cuts there were, how many left the old reading, the new one or
 // another, after how many the repair kept the reading and made the pairs agree, and after how many the further command
 // then left what the book says.
-use bench::Done;
-use bench::tearing::Choice;
 use book::Book;
 use book::Read;
 use commands::Command;
+use harness::Done;
+use harness::tearing::Choice;
 use jobs::Job;
 use jobs::Next;
 use libc::STDOUT_FILENO;
@@ -70,13 +70,13 @@ fn copy(from: &[u8], to: &mut [u8]) {
 // The flash, with a choice of the granule at an address wiped, and what it reads as.
 fn cut_flash(flash: &[u8], work: &mut [u8], setting: Setting, at: usize, choice: Choice) -> Read {
     copy(flash, work);
-    bench::tearing::tear(work, at, setting.granule, choice);
+    harness::tearing::tear(work, at, setting.granule, choice);
     book::read_book(work, setting)
 }
 
 // A repair keeps the reading and makes the pairs agree.
 fn is_repaired(work: &mut [u8], setting: Setting, cut: Book) -> bool {
-    bench::finish(work, setting, Command::Repair);
+    harness::finish(work, setting, Command::Repair);
     book::reads_as(book::read_book(work, setting), cut) & book::pairs_agree(work, setting)
 }
 
@@ -84,7 +84,7 @@ fn is_repaired(work: &mut [u8], setting: Setting, cut: Book) -> bool {
 fn is_right_then(work: &mut [u8], setting: Setting, cut: Book) -> bool {
     let next = further(cut);
     let expected = book::booked(cut, next, work, setting);
-    let long = is_long(bench::finish(work, setting, next));
+    let long = is_long(harness::finish(work, setting, next));
     let held = book::reads_as(book::read_book(work, setting), expected);
     long & (held & book::pairs_agree(work, setting))
 }
@@ -195,7 +195,7 @@ fn try_start(image: &[u8], flash: &mut [u8], work: &mut [u8], setting: Setting, 
     copy(image, flash);
     let read = book::read_book(image, setting);
     let old = read.book;
-    let begun = bench::begin(image, setting, command);
+    let begun = harness::begin(image, setting, command);
     let job = begun.job;
     let answer = begun.answer;
     let sum = try_job(

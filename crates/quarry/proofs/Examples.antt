@@ -13,7 +13,7 @@ use Rattle.rules.specs.Numbers.{setting, length-right, granule-right, addresses
 use Rattle.rules.specs.Table.{Entry, entry, entry-count, entries, boot-info, spt0-name, cpb0-name, cpb1-name, has-name, is-fixed-name, no-entry, named, cpb0-of, header-right, count-right, name-right, names-differ, range-aligned, range-inside, ranges-apart, six-named, boot-info-at-0, tables-as-told, on-granules, blocks-on-granules, table-stands, entries-fault, fault, is-slot, starts}
 use Rattle.rules.specs.Pointers.{pointers-stand, places, erased-value, judged, order}
 use Rattle.rules.specs.Copies.{copy-read, no-table, pair-agrees, dump-stands, standing-dump}
-use Rattle.rules.specs.Readers.{order-in, row-after, slot-row, facts, name-in}
+use Rattle.rules.specs.Readers.{order-in, row-after, slot-row, info, name-in}
 use Rattle.rules.specs.Steps.{programmed, wiped, steps, programs, rewrite, rewrite-pair}
 use Rattle.rules.specs.declared.Fault.{Fault}
 use Rattle.rules.specs.Commands.{pointer-bytes, filled, pointers-of, free-place, is-first, into-place, append-steps, giving, into-places, half-cleared-names, padded-name, put-name, name-allowed, name-free, rename-steps, may-start, upward, lowest-start, has-start, new-row, with-new-row, without-row, size-right, repair-pair, enable, disable, rename, delete, slot-empty}
@@ -209,7 +209,7 @@ reader-examples :
     × (row-after (given (1 ∷ 0 ∷ [])) (7 ∷ 8 ∷ 9 ∷ []) ≡ 1 ∷ 0 ∷ 9 ∷ [])
     × (row-after (refused (numbered 13)) (7 ∷ 8 ∷ 9 ∷ []) ≡ 7 ∷ 8 ∷ 9 ∷ [])
     × (map (slot-row (entries table)) (0 ∷ 2 ∷ 3 ∷ []) ≡ 6 ∷ 8 ∷ 9 ∷ [])
-    × (facts (entries table) 1 .start ≡ 0x9000)
+    × (info (entries table) 1 .start ≡ 0x9000)
     × (map (name-in (entries table)) (1 ∷ 3 ∷ []) ≡ (80 ∷ 50 ∷ []) ∷ [] ∷ [])
 unfolding rules table
 reader-examples = (refl, refl, refl, refl, refl, refl, refl)

@@ -36,7 +36,7 @@ fn quarry() -> Setting {
 // Starts a command, does all its steps and prints how many, or the refusal.
 fn finish(image: &mut [u8], command: Command) {
     printing::print_command(command);
-    printing::print_done(bench::finish(image, quarry(), command));
+    printing::print_done(harness::finish(image, quarry(), command));
 }
 
 fn finish_rename(image: &mut [u8], name: &[u8]) {
@@ -44,21 +44,21 @@ fn finish_rename(image: &mut [u8], name: &[u8]) {
     io::write_all(STDOUT_FILENO, b"rename 0 ");
     io::write_all(STDOUT_FILENO, name);
     io::write_all(STDOUT_FILENO, b": ");
-    printing::print_done(bench::run_begun(image, begun));
+    printing::print_done(harness::run_begun(image, begun));
 }
 
 // Creates P4 of 0x1000, which becomes the entry of this number.
 fn create_p4(image: &mut [u8], entry: EntryNo) {
     let begun = commands::start_create(image, quarry(), b"P4", 0x1000);
     io::write_all(STDOUT_FILENO, b"create P4 4096: ");
-    printing::print_done(bench::run_begun(image, begun));
+    printing::print_done(harness::run_begun(image, begun));
     printing::print_entry_start(image, entry);
     print_order(image);
 }
 
 // A command cut after some steps.
 fn cut(image: &mut [u8], command: Command, steps: usize) {
-    let begun = bench::begin(image, quarry(), command);
+    let begun = harness::begin(image, quarry(), command);
     let job = begun.job;
     jobs::run(job, image, steps);
     printing::print_command(command);

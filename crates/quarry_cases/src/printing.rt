@@ -1,9 +1,9 @@
 // What the cases print.
-use bench::Done;
 use book::Answer;
 use book::order::Order;
 use book::order::ROOM;
 use commands::Command;
+use harness::Done;
 use libc::STDOUT_FILENO;
 use rules::EntryNo;
 use rules::PlaceNo;

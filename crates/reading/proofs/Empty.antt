@@ -1,5 +1,5 @@
 -- An empty part is a refusal, and nothing else is: the table part is empty exactly where `view` refuses, and a slot's
--- name exactly where `slot_facts` refuses. The number of the refusal is theirs. Assumes nothing.
+-- name exactly where `slot_info` refuses. The number of the refusal is theirs. Assumes nothing.
 use mathlib.Core.Path.{_≡_, refl}
 use mathlib.Core.Bool.{true}
 use mathlib.Core.List.{List}
@@ -14,7 +14,7 @@ use Rattle.rules.specs.Answers.{Answer, refused, given, unless, _>>=_}
 use Rattle.rules.specs.declared.Setting.{Setting}
 use Rattle.rules.specs.Table.{entries-from, entry-count, entries, name, name-right, slots, no-entry}
 use Rattle.rules.specs.Copies.{view}
-use Rattle.rules.specs.Readers.{table-of, table-part, slot-row, slot-entry, slot-there, slot-facts, name-in, slot-name}
+use Rattle.rules.specs.Readers.{table-of, table-part, slot-row, slot-entry, slot-there, slot-info, name-in, slot-name}
 use Rattle.rules.specs.declared.View.{View}
 use Rattle.rules.proofs.Lists.Tests.{by-cases, and-true}
 use Rattle.rules.proofs.Lists.Combinators.{all-at}
@@ -53,11 +53,11 @@ module _ (s : Setting) (img : List ℕ) where
         let right = all-at name-right es no-entry (slot-row es k) (st .rule3) found in
         ltb-true 0 _ (and-true _ _ right .0)
 
-    pub name-empty : eqb (length (slot-name s img k)) 0 ≡ is-refused (slot-facts s img k)
-    unfolding slot-name slot-facts table-part table-of name-in is-refused unless _>>=_
+    pub name-empty : eqb (length (slot-name s img k)) 0 ≡ is-refused (slot-info s img k)
+    unfolding slot-name slot-info table-part table-of name-in is-refused unless _>>=_
     name-empty = by (view s img) refl
       where
-        by : (a : Answer View) → view s img ≡ a → eqb (length (slot-name s img k)) 0 ≡ is-refused (slot-facts s img k)
+        by : (a : Answer View) → view s img ≡ a → eqb (length (slot-name s img k)) 0 ≡ is-refused (slot-info s img k)
         by (refused n) e =
             unfold entries entry-count field little-endian entries-from slot-there slots keep in
             rw (e, le-ltb k 0 (omega arith))

@@ -2,5 +2,5 @@ pub mod Views
 pub mod Seen
 pub mod Due
 pub mod Opening
-pub mod SlotFacts
+pub mod SlotInfo
 pub mod Empty

@@ -6,7 +6,7 @@ use lib.ListN.{length}
 use Rattle.rules.specs.Answers.{Answer, refused, given, _>>=_}
 use Rattle.rules.specs.declared.View.{View}
 use Rattle.rules.specs.declared.TableFaults.{TableFaults}
-use Rattle.rules.specs.declared.Facts.{Facts}
+use Rattle.rules.specs.declared.SlotInfo.{SlotInfo}
 use Rattle.reading.specs.declared.Viewed.{Viewed}
 use Rattle.reading.specs.declared.Viewed.the-variants.{At, Refused as NotViewed}
 use Rattle.reading.specs.declared.Faults.{Faults}
@@ -43,7 +43,7 @@ counted (Slots n) = given n
 counted (NotCounted why) = refused why
 
 -- what is known of a slot, or refused 1, 2, 3, 50, 51, 5 or 7
-unfoldable pub known : Known → Answer Facts
+unfoldable pub known : Known → Answer SlotInfo
 known (Is f) = given f
 known (NotKnown why) = refused why
 

@@ -2,19 +2,19 @@
 mod numbers; // refusals 1 to 3
 mod followed; // refusals 50, 51 and 5
 mod order; // the boot order by two blocks, and refusal 13
-mod facts; // one slot by a table, and refusal 7
+mod info; // one slot by a table, and refusal 7
 
-use rules::Facts;
 use rules::NO_FAULT;
 use rules::Refusal;
 use rules::Setting;
+use rules::SlotInfo;
 use rules::SlotNo;
 use rules::TableFaults;
 use rules::View;
 ghost use mathlib.Core.Path.{_≡_};
 ghost use lib.ListN.{length};
 ghost use Rattle.rules.specs.Copies.{view};
-ghost use Rattle.rules.specs.Readers.{order-list, row-after, table-part, table-faults, slot-count, slot-facts, slot-name};
+ghost use Rattle.rules.specs.Readers.{order-list, row-after, table-part, table-faults, slot-count, slot-info, slot-name};
 ghost use Rattle.reading.specs.Answers.{viewed, faulted, listed, count-of, counted, known};
 
 // Where things are, or a refusal.
@@ -43,7 +43,7 @@ pub enum Counted {
 
 // What is known of a slot, or a refusal.
 pub enum Known {
-    Is(Facts),
+    Is(SlotInfo),
     Refused(Refusal),
 }
 
@@ -141,8 +141,8 @@ pub fn slot_count(image: &[u8], setting: Setting) -> Counted
 }
 
 // The entry number, start, length and flags of a slot.
-pub fn slot_facts(image: &[u8], setting: Setting, slot: SlotNo) -> Known
-    ensures { λ r. ⌜ known r ≡ slot-facts setting (now (image .entry)) (slot .0) ⌝ }
+pub fn slot_info(image: &[u8], setting: Setting, slot: SlotNo) -> Known
+    ensures { λ r. ⌜ known r ≡ slot-info setting (now (image .entry)) (slot .0) ⌝ }
 {
     let seen = view(image, setting);
     match seen {
@@ -150,7 +150,7 @@ pub fn slot_facts(image: &[u8], setting: Setting, slot: SlotNo) -> Known
         Viewed::At(v) => {
             let at = v.table;
             let t = fields::block_at(image, at);
-            facts::facts_in(t, entries::entry_count(t), slot)
+            info::info_in(t, entries::entry_count(t), slot)
         }
     }
 }
@@ -165,7 +165,7 @@ pub fn slot_name(image: &[u8], setting: Setting, slot: SlotNo) -> &[u8]
         Viewed::At(v) => {
             let at = v.table;
             let t = fields::block_at(image, at);
-            facts::name_in(t, entries::entry_count(t), slot)
+            info::name_in(t, entries::entry_count(t), slot)
         }
     }
 }

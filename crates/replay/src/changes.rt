@@ -1,5 +1,5 @@
 // Lines that change the image or the setting. The image lies at the front of its room.
-use super::bounds::least;
+use super::bounds::min;
 use super::bounds::part_of;
 use super::desk;
 use super::desk::Desk;
@@ -40,7 +40,7 @@ fn new_length(desk: Desk, room: &mut [u8], length: usize) -> Desk {
     if room.len() < length {
         return desk::error(desk);
     }
-    let kept = least(desk.length, length);
+    let kept = min(desk.length, length);
     fill(&mut room[kept..length], ERASED);
     desk::with_length(desk, length)
 }
@@ -55,7 +55,7 @@ fn new_setting(desk: Desk, granule: usize, spt0: usize, spt1: usize) -> Desk {
 }
 
 fn put(desk: Desk, room: &mut [u8], at: usize, word: &[u8]) -> Desk {
-    let length = least(desk.length, room.len());
+    let length = min(desk.length, room.len());
     let part = part_of(length, at, word.len() / 2);
     if !part.right {
         return desk::error(desk);
@@ -67,7 +67,7 @@ fn put(desk: Desk, room: &mut [u8], at: usize, word: &[u8]) -> Desk {
 }
 
 fn copy(desk: Desk, room: &mut [u8], from: usize, to: usize, n: usize) -> Desk {
-    let length = least(desk.length, room.len());
+    let length = min(desk.length, room.len());
     if length < n {
         return desk::error(desk);
     }

@@ -1,5 +1,5 @@
 // Pieces of standard input, made into lines.
-use super::bounds::least;
+use super::bounds::min;
 use super::changes;
 use super::desk;
 use super::desk::Desk;
@@ -38,7 +38,7 @@ fn finish(desk: Desk, room: &mut [u8], line: &[u8]) -> Desk {
     if desk.used == 0 {
         return desk::end(desk);
     }
-    let end = least(desk.used, line.len());
+    let end = min(desk.used, line.len());
     desk::end(do_line(desk, room, &line[0..end]))
 }
 
@@ -58,7 +58,7 @@ fn take_piece(desk: Desk, room: &mut [u8], line: &mut [u8], piece: &[u8]) -> Des
 
 // Adds a part of a line; the line is done once it is whole.
 fn take_part(desk: Desk, room: &mut [u8], line: &mut [u8], part: &[u8], whole: bool) -> Desk {
-    let used = least(desk.used, line.len());
+    let used = min(desk.used, line.len());
     if line.len() - used < part.len() {
         return desk::error(desk);
     }
@@ -71,7 +71,7 @@ fn take_part(desk: Desk, room: &mut [u8], line: &mut [u8], part: &[u8], whole: b
 }
 
 fn store(to: &mut [u8], bytes: &[u8]) {
-    let n = least(to.len(), bytes.len());
+    let n = min(to.len(), bytes.len());
     let mut i = 0;
     while i < n {
         to[i] = bytes[i];

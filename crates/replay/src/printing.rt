@@ -1,17 +1,17 @@
 // Answers on standard output, each a line, but for the listing.
-use super::bounds::least;
+use super::bounds::min;
 use libc::STDOUT_FILENO;
 use rules::EntryNo;
-use rules::Facts;
 use rules::Fault;
 use rules::Refusal;
 use rules::Setting;
+use rules::SlotInfo;
 use rules::SlotNo;
 use script::answers::put_number;
 
 // The front of a buffer.
 fn write_front(out: &[u8], end: usize) {
-    let n = least(end, out.len());
+    let n = min(end, out.len());
     io::write_all(STDOUT_FILENO, &out[0..n]);
 }
 
@@ -74,17 +74,17 @@ pub fn print_listing(setting: Setting, image: &[u8]) {
     io::write_all(STDOUT_FILENO, &out[..end]);
 }
 
-// A slot's number, entry, name and facts.
-pub fn print_slot(slot: SlotNo, facts: Facts, name: &[u8]) {
+// A slot's number, entry, name and info.
+pub fn print_slot(slot: SlotNo, info: SlotInfo, name: &[u8]) {
     let mut out = [0u8; 256];
     let mut end = text::put_bytes(&mut out, 0, b"slot");
     end = put_number(&mut out, end, slot.0 as u64);
-    end = put_number(&mut out, end, row_of(facts.entry));
+    end = put_number(&mut out, end, row_of(info.entry));
     end = text::put_byte(&mut out, end, b' ');
     end = script::hex::put(&mut out, end, name);
-    end = put_number(&mut out, end, facts.start);
-    end = put_number(&mut out, end, facts.size);
-    end = put_number(&mut out, end, facts.flags);
+    end = put_number(&mut out, end, info.start);
+    end = put_number(&mut out, end, info.size);
+    end = put_number(&mut out, end, info.flags);
     write_line(&mut out, end);
 }
 
@@ -117,7 +117,7 @@ const PIECE: usize = 2048;
 fn write_hex(bytes: &[u8]) {
     let mut i = 0;
     while i < bytes.len() {
-        let n = least(PIECE, bytes.len() - i);
+        let n = min(PIECE, bytes.len() - i);
         write_piece(&bytes[i..i + n]);
         i += n;
     }

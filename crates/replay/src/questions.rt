@@ -1,5 +1,5 @@
 // Lines that ask and change nothing. Each function answers whether the line was right.
-use super::bounds::least;
+use super::bounds::min;
 use super::bounds::part_of;
 use super::desk::Desk;
 use super::printing;
@@ -11,7 +11,7 @@ use script::Question;
 
 pub fn ask(desk: Desk, room: &[u8], asked: Question) -> bool {
     let setting = desk.setting;
-    let length = least(desk.length, room.len());
+    let length = min(desk.length, room.len());
     let image = &room[0..length];
     match asked {
         Question::Order(places) => tell_order(setting, image, places),
@@ -34,12 +34,12 @@ fn tell_order(setting: Setting, image: &[u8], places: usize) -> bool {
 }
 
 fn tell_order_in(setting: Setting, image: &[u8], places: usize, row: &mut [u32]) -> bool {
-    let n = least(places, row.len());
+    let n = min(places, row.len());
     let listed = reading::order_list(image, setting, &mut row[0..n]);
     match listed {
         Listed::Refused(why) => printing::print_refused(why),
         Listed::Count(count) => {
-            let end = least(count, row.len());
+            let end = min(count, row.len());
             printing::print_order(&row[0..end]);
         }
     }
@@ -52,12 +52,12 @@ fn tell_listing(setting: Setting, image: &[u8]) -> bool {
 }
 
 fn tell_slot(setting: Setting, image: &[u8], slot: SlotNo) -> bool {
-    let known = reading::slot_facts(image, setting, slot);
+    let known = reading::slot_info(image, setting, slot);
     match known {
         Known::Refused(why) => printing::print_refused(why),
-        Known::Is(facts) => {
+        Known::Is(info) => {
             let name = reading::slot_name(image, setting, slot);
-            printing::print_slot(slot, facts, name);
+            printing::print_slot(slot, info, name);
         }
     }
     true

@@ -1,5 +1,5 @@
 // Lines that start a job, which becomes the current one.
-use super::bounds::least;
+use super::bounds::min;
 use super::desk;
 use super::desk::Desk;
 use super::printing;
@@ -9,7 +9,7 @@ use commands::Outcome;
 // A command of this name; an empty one where it has none.
 pub fn start(desk: Desk, room: &[u8], command: Command, name: &[u8]) -> Desk {
     let setting = desk.setting;
-    let length = least(desk.length, room.len());
+    let length = min(desk.length, room.len());
     let begun = commands::start(&room[0..length], setting, command, name);
     let outcome = begun.answer;
     match outcome {
@@ -37,7 +37,7 @@ pub fn start_named(desk: Desk, room: &[u8], command: Command, word: &[u8]) -> De
 }
 
 fn start_with(desk: Desk, room: &[u8], command: Command, word: &[u8], name: &mut [u8]) -> Desk {
-    let n = least(word.len() / 2, name.len());
+    let n = min(word.len() / 2, name.len());
     script::hex::decode(word, &mut name[0..n]);
     start(desk, room, command, &name[0..n])
 }

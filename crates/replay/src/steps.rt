@@ -1,6 +1,6 @@
 // Lines that do steps of the current job.
 use super::bounds::Part;
-use super::bounds::least;
+use super::bounds::min;
 use super::bounds::part_of;
 use super::changes;
 use super::desk;
@@ -18,7 +18,7 @@ pub fn carry_out(desk: Desk, room: &mut [u8], asked: Steps, line: &[u8]) -> Desk
     if !desk.busy {
         return desk::error(desk);
     }
-    let length = least(desk.length, room.len());
+    let length = min(desk.length, room.len());
     match asked {
         Steps::Run(budget) => run(desk, &mut room[0..length], budget),
         Steps::Cut(n, bytes) => cut(desk, &mut room[0..length], n, bytes),
@@ -47,8 +47,8 @@ fn cut(desk: Desk, image: &mut [u8], n: usize, bytes: usize) -> Desk {
         return desk::error(desk);
     }
     let part = erase_after(jobs::run(job, image, n), image.len());
-    let to = least(part.to, image.len());
-    let from = least(part.from, to);
+    let to = min(part.to, image.len());
+    let from = min(part.from, to);
     wipe(&mut image[from..to], 0, bytes);
     dropped(desk)
 }
@@ -60,8 +60,8 @@ fn torn(desk: Desk, image: &mut [u8], n: usize, ranges: usize, line: &[u8]) -> D
         return desk::error(desk);
     }
     let part = erase_after(jobs::run(job, image, n), image.len());
-    let to = least(part.to, image.len());
-    let from = least(part.from, to);
+    let to = min(part.to, image.len());
+    let from = min(part.from, to);
     wipe_ranges(&mut image[from..to], ranges, line);
     dropped(desk)
 }
@@ -98,8 +98,8 @@ fn erase_next(job: Job, length: usize) -> Part {
 
 // What passes the granule's end is ignored.
 fn wipe(granule: &mut [u8], at: usize, n: usize) {
-    let from = least(at, granule.len());
-    let to = from + least(n, granule.len() - from);
+    let from = min(at, granule.len());
+    let to = from + min(n, granule.len() - from);
     changes::fill(&mut granule[from..to], changes::ERASED);
 }
 
@@ -123,7 +123,7 @@ struct Last {
 }
 
 fn last_of(line: &[u8], end: usize) -> Last {
-    let n = least(end, line.len());
+    let n = min(end, line.len());
     let part = &line[0..n];
     let from = words::last_word_start(part);
     let mut last = Last {

@@ -13,10 +13,10 @@ use Rattle.rules.specs.Answers.{Answer, refused, given}
 use Rattle.rules.specs.Table.{entry, entries-from, entries, name, no-entry, is-slot, slots, starts}
 use Rattle.rules.specs.Pointers.{places, judged, is-dead}
 use Rattle.rules.specs.Copies.{view, order-by, boot-order}
-use Rattle.rules.specs.Readers.{slot-facts, slot-name, name-in, slot-entry, slot-there, table-part}
+use Rattle.rules.specs.Readers.{slot-info, slot-name, name-in, slot-entry, slot-there, table-part}
 use Rattle.rules.specs.declared.Setting.{Setting}
 use Rattle.rules.specs.declared.View.{View}
-use Rattle.rules.specs.declared.Facts.{Facts}
+use Rattle.rules.specs.declared.SlotInfo.{SlotInfo}
 use Rattle.rules.specs.declared.Place.{Place}
 use Rattle.rules.specs.declared.Place.the-variants.{Erased, Spent, Live, PartWritten, Stray}
 use Rattle.rules.proofs.Lists.Tests.{by-cases}
@@ -31,7 +31,7 @@ use Rattle.reading.proofs.Opening.{located}
 use Rattle.text.specs.Put.{Put}
 use Rattle.text.proofs.Puts.{put-whole}
 use Rattle.text.specs.Shown.{digits, decimal, shown}
-use Rattle.report.specs.Listing.{listing-setting, header, refusal, told, facts-text, slot-line, numbered, places-header, kind-word, place-line, judged-line, dead-part, parts, listing-by, listing-for, listing}
+use Rattle.report.specs.Listing.{listing-setting, header, refusal, told, info-text, slot-line, numbered, places-header, kind-word, place-line, judged-line, dead-part, parts, listing-by, listing-for, listing}
 
 -- ---- the parts of a line
 
@@ -65,7 +65,7 @@ slot-name-short s img k = by-cases (slot-there (entries (table-part s img)) k)
     (λ b. rw b (entries-name-short _ _ _))
     (λ b. rw b (omega arith))
 
-told-short : (a : Answer Facts) → length (told a) ≤ 43
+told-short : (a : Answer SlotInfo) → length (told a) ≤ 43
 unfolding told
 told-short (refused why) = omega arith
 told-short (given f) =
@@ -74,10 +74,10 @@ told-short (given f) =
     omega (arith, line, rest, decimal-short (f .start), decimal-short (f .size))
 
 slot-line-short : (s : Setting) (img : List ℕ) (rank k : ℕ) → length (slot-line s img rank k) ≤ 101
-unfolding slot-line facts-text
+unfolding slot-line info-text
 slot-line-short s img rank k =
     let shown-name = map shown (slot-name s img k) in
-    let rest = told (slot-facts s img k) in
+    let rest = told (slot-info s img k) in
     omega (
       arith,
       length-append (decimal rank) (0x20 ∷ decimal k ++ (0x20 ∷ shown-name ++ rest)),
@@ -87,7 +87,7 @@ slot-line-short s img rank k =
       decimal-short rank,
       decimal-short k,
       slot-name-short s img k,
-      told-short (slot-facts s img k),
+      told-short (slot-info s img k),
     )
 
 kind-word-short : (j : Place) → length (kind-word j) ≤ 12

@@ -11,10 +11,10 @@ use Rattle.rules.specs.Numbers.{setting}
 use Rattle.rules.specs.Table.{starts}
 use Rattle.rules.specs.Pointers.{places, judged, is-dead}
 use Rattle.rules.specs.Copies.{view, boot-order}
-use Rattle.rules.specs.Readers.{slot-facts, slot-name}
+use Rattle.rules.specs.Readers.{slot-info, slot-name}
 use Rattle.rules.specs.declared.Setting.{Setting}
 use Rattle.rules.specs.declared.View.{View}
-use Rattle.rules.specs.declared.Facts.{Facts}
+use Rattle.rules.specs.declared.SlotInfo.{SlotInfo}
 use Rattle.rules.specs.declared.Place.{Place}
 use Rattle.rules.specs.declared.Place.the-variants.{Erased, Spent, Live, PartWritten, Stray}
 use Rattle.text.specs.Shown.{decimal, shown}
@@ -46,13 +46,13 @@ unfoldable pub refusal : ℕ → List ℕ
 refusal n =
     (114 ∷ 101 ∷ 102 ∷ 117 ∷ 115 ∷ 101 ∷ 100 ∷ space ∷ []) ++ (decimal n ++ (newline ∷ []))
 
-unfoldable pub told : Answer Facts → List ℕ
+unfoldable pub told : Answer SlotInfo → List ℕ
 told (refused why) = newline ∷ []
 told (given f) = space ∷ decimal (f .start) ++ (space ∷ decimal (f .size) ++ (newline ∷ []))
 
 -- start and length of a slot
-unfoldable pub facts-text : Setting → List ℕ → ℕ → List ℕ
-facts-text s img k = told (slot-facts s img k)
+unfoldable pub info-text : Setting → List ℕ → ℕ → List ℕ
+info-text s img k = told (slot-info s img k)
 
 -- "rank from 1, slot number, name (bytes outside 0x21-0x7E as `?`), start and length in decimal"
 unfoldable pub slot-line : Setting → List ℕ → ℕ → ℕ → List ℕ
@@ -60,7 +60,7 @@ slot-line s img rank k =
     decimal rank
     ++ (space ∷ decimal k
     ++ (space ∷ map shown (slot-name s img k)
-    ++ facts-text s img k))
+    ++ info-text s img k))
 
 -- a text for each element of a list, numbered from n on
 unfoldable pub numbered : (ℕ → ℕ → List ℕ) → ℕ → List ℕ → List ℕ

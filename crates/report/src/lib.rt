@@ -11,7 +11,7 @@ ghost use Prim.Native.Nat.{_≤_};
 ghost use lib.ListN.{length, take};
 ghost use Rattle.reading.specs.Inner.Located.{Located};
 ghost use Rattle.text.specs.Put.{Put};
-ghost use Rattle.report.specs.Listing.{listing, listing-for, parts, refusal, numbered, slot-line, facts-text};
+ghost use Rattle.report.specs.Listing.{listing, listing-for, parts, refusal, numbered, slot-line, info-text};
 
 // What the listing program has fixed. More bytes than the limit are refused.
 const GRANULE: usize = 4096;
@@ -114,20 +114,20 @@ fn put_line(
     end = text::put_decimal(out, end, slot.0 as u64);
     end = text::put_byte(out, end, b' ');
     end = text::put_shown(out, end, reading::slot_name(image, setting, slot));
-    put_facts(image, setting, slot, out, end)
+    put_info(image, setting, slot, out, end)
 }
 
-fn put_facts(image: &[u8], setting: Setting, slot: SlotNo, out: &mut [u8], at: usize) -> usize
-    ensures { λ r. ⌜ Put (now (out .entry)) at (facts-text setting (now (image .entry)) (slot .0)) (now (out .exit)) r ⌝ }
+fn put_info(image: &[u8], setting: Setting, slot: SlotNo, out: &mut [u8], at: usize) -> usize
+    ensures { λ r. ⌜ Put (now (out .entry)) at (info-text setting (now (image .entry)) (slot .0)) (now (out .exit)) r ⌝ }
 {
-    let known = reading::slot_facts(image, setting, slot);
+    let known = reading::slot_info(image, setting, slot);
     match known {
         Known::Refused(_) => text::put_byte(out, at, b'\n'),
-        Known::Is(facts) => {
+        Known::Is(info) => {
             let mut end = text::put_byte(out, at, b' ');
-            end = text::put_decimal(out, end, facts.start);
+            end = text::put_decimal(out, end, info.start);
             end = text::put_byte(out, end, b' ');
-            end = text::put_decimal(out, end, facts.size);
+            end = text::put_decimal(out, end, info.size);
             text::put_byte(out, end, b'\n')
         }
     }

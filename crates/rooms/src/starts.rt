@@ -62,7 +62,7 @@ fn held(p: &[u8], places: Places, v: u64) -> bool
     if v == places::place_value(p, places, PlaceNo(0)) {
         return true;
     }
-    places::held_above(p, places, PlaceNo(0), v)
+    places::occurs_above(p, places, PlaceNo(0), v)
 }
 
 // The candidate itself where it may be the start, else the next one.

@@ -13,7 +13,7 @@ use Rattle.rules.specs.declared.TableFaults.{TableFaults}
 use Rattle.rules.specs.Table.{Entry, entries, fault, name, slots, is-slot, no-entry}
 use Rattle.rules.specs.Copies.{view, boot-order}
 use Rattle.rules.specs.declared.View.{View}
-use Rattle.rules.specs.declared.Facts.{Facts}
+use Rattle.rules.specs.declared.SlotInfo.{SlotInfo}
 
 -- ---- the order list
 
@@ -69,8 +69,8 @@ slot-row (e ∷ es) (suc k) = cond (is-slot e) (suc (slot-row es k)) (suc (slot-
 unfoldable pub slot-entry : List Entry → ℕ → Entry
 slot-entry es k = getD es (slot-row es k) no-entry
 
-unfoldable pub facts : List Entry → ℕ → Facts
-facts es k = record {
+unfoldable pub info : List Entry → ℕ → SlotInfo
+info es k = record {
   entry = record { 0 = slot-row es k };
   start = slot-entry es k .start;
   size = slot-entry es k .size;
@@ -82,9 +82,9 @@ unfoldable pub slot-there : List Entry → ℕ → Bool
 slot-there es k = ltb k (length (slots es))
 
 -- the refusals of a view and 7, or what is known of a slot beside its name
-unfoldable pub slot-facts : Setting → List ℕ → ℕ → Answer Facts
-slot-facts s img k = view s img >>= λ v.
-    (let es = entries (block img (v .table)) in unless 7 (slot-there es k) (given (facts es k)))
+unfoldable pub slot-info : Setting → List ℕ → ℕ → Answer SlotInfo
+slot-info s img k = view s img >>= λ v.
+    (let es = entries (block img (v .table)) in unless 7 (slot-there es k) (given (info es k)))
 
 unfoldable pub name-in : List Entry → ℕ → List ℕ
 name-in es k = cond (slot-there es k) (name (slot-entry es k)) []

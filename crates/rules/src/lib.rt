@@ -62,7 +62,7 @@ pub struct View {
 }
 
 // What is known of an application slot, beside its name.
-pub struct Facts {
+pub struct SlotInfo {
     pub entry: EntryNo,
     pub start: u64,
     pub size: u64,

@@ -19,7 +19,7 @@ use Rattle.rules.specs.declared.Setting.{Setting}
 use Rattle.rules.specs.Table.{entries, table-stands, starts, cpb0-of, cpb1-of}
 use Rattle.rules.specs.Pointers.{pointers-stand}
 use Rattle.rules.specs.Copies.{table-read, pointers-read, view-through, view, boot-order, pair-agrees, tables-agree, pointers-agree, agree-by, agreed, pairs-agree, no-table}
-use Rattle.rules.specs.Readers.{slot-there, order-list, table-of, table-part, slot-count, slot-facts, slot-name}
+use Rattle.rules.specs.Readers.{slot-there, order-list, table-of, table-part, slot-count, slot-info, slot-name}
 use Rattle.rules.specs.Commands.{Command, enable, disable, rename, create, delete, repair, created-start, repair-pair, repair-steps, slot-empty, enough-places, enable-steps, job, start}
 use Rattle.rules.specs.Book.{read-by, reading}
 use Rattle.rules.specs.declared.View.{View}
@@ -144,9 +144,9 @@ module _ (s : Setting) (img img′ : List ℕ) (same : SameBlocks s img img′) 
   unfolding slot-count
   slot-count-same = of-view _ _ (λ v b. rw (b .table))
 
-  pub slot-facts-same : (k : ℕ) → slot-facts s img k ≡ slot-facts s img′ k
-  unfolding slot-facts
-  slot-facts-same k = of-view _ _ (λ v b. rw (b .table))
+  pub slot-info-same : (k : ℕ) → slot-info s img k ≡ slot-info s img′ k
+  unfolding slot-info
+  slot-info-same k = of-view _ _ (λ v b. rw (b .table))
 
   pub slot-name-same : (k : ℕ) → slot-name s img k ≡ slot-name s img′ k
   unfolding slot-name

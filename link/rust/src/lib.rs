@@ -3,7 +3,7 @@
 //! Every image, number and job gets an answer: what was asked for, or a [`Refused`], which leaves image and job
 //! as they were. A Rust slice or reference is all that the library asks of what is lent, so nothing is left to check.
 
-mod raw;
+pub mod raw;
 
 /// The first rule that a copy of the table breaks, 1 to 11, and the entry that breaks it, 127 where the rule is about no
 /// entry by itself; 0 and 127 for a copy that stands.

@@ -24,10 +24,10 @@ returns-2 c =
     let at-if1 = c .before in
     let at-left = at-if1 .before in
     let a = at-left .before .args in (
-      rw (c .least .ensures, ← at-left .remaining-of .ensures) (counts-some (at-left .remaining-of .result) (a .n) (at-if1 .if1 .left)),
+      rw (c .min .ensures, ← at-left .remaining-of .ensures) (counts-some (at-left .remaining-of .result) (a .n) (at-if1 .if1 .left)),
       λ n e.
-          let k : c .least .result ≡ n = cc in
-          omega (arith, k, c .least .ensures, at-left .remaining-of .ensures, listed-bound (a .plan)),
+          let k : c .min .result ≡ n = cc in
+          omega (arith, k, c .min .ensures, at-left .remaining-of .ensures, listed-bound (a .plan)),
     )
 
 pub counted-of-spec : {M : Type 1} → statement M

@@ -10,21 +10,21 @@ sizes s = record { first = search needs; second = search needs }
 
 returned-requires : tie.Need-returned-requires
 returned-requires c κs =
-    let at-run-lent = c .before .before in
-    let s = at-run-lent .before .before .before .before .before .before .before .before .before .before .before .before in
+    let at-run-in-place = c .before .before in
+    let s = at-run-in-place .before .before .before .before .before .before .before .before .before .before .before .before in
     let a = s .args in
-    run-countable (a .job) (a .image .now) (sizes s) (a .budget) (at-run-lent .run-lent .result)
-    (at-run-lent .run-lent .ensures .0)
+    run-countable (a .job) (a .image .now) (sizes s) (a .budget) (at-run-in-place .run-in-place .result)
+    (at-run-in-place .run-in-place .ensures .0)
 
 returns : tie.Need-returns
 returns c =
-    let at-run-lent = c .before .before .before in
-    let s = at-run-lent .before .before .before .before .before .before .before .before .before .before .before .before in
+    let at-run-in-place = c .before .before .before in
+    let s = at-run-in-place .before .before .before .before .before .before .before .before .before .before .before .before in
     let a = s .args in
     rw (c .returned .ensures)
-    (run-returned (a .job) (a .image .now) (a .budget) (at-run-lent .run-lent .result)
-    (at-run-lent .run-lent .last .1 .1 .1 .1 .1 .1 .0)
-    (at-run-lent .run-lent .ensures .0) (at-run-lent .run-lent .ensures .1))
+    (run-returned (a .job) (a .image .now) (a .budget) (at-run-in-place .run-in-place .result)
+    (at-run-in-place .run-in-place .last .1 .1 .1 .1 .1 .1 .0)
+    (at-run-in-place .run-in-place .ensures .0) (at-run-in-place .run-in-place .ensures .1))
 
 pub run-spec : {M : Type 1} → statement M
 run-spec =

@@ -11,8 +11,8 @@ use Rattle.places.proofs.added_by.Tie as tie
 enum-told : tie.Need-enum-told
 enum-told c = search needs
 
-held-above-requires : tie.Need-held-above-requires
-held-above-requires c κs =
+occurs-above-requires : tie.Need-occurs-above-requires
+occurs-above-requires c κs =
     let live = c .before in
     let judged = live .before .before in
     let start = judged .before .before .before .before in
@@ -32,7 +32,7 @@ returns c =
       ← judged .before .place-value .ensures,
       ← judged .judge .ensures,
       live .judgement .given .1,
-      sym (held .held-above .ensures) ∙ c .if1 .taken,
+      sym (held .occurs-above .ensures) ∙ c .if1 .taken,
     )
 
 returns-2 : tie.Need-returns-2
@@ -57,7 +57,7 @@ returns-4 c =
       ← judged .before .place-value .ensures,
       ← judged .judge .ensures,
       live .judgement .given .1,
-      sym (held .held-above .ensures) ∙ c .if1 .left,
+      sym (held .occurs-above .ensures) ∙ c .if1 .left,
     )
 
 returns-5 : tie.Need-returns-5
@@ -81,7 +81,7 @@ added-by-spec =
     enum-told
     (λ c. search needs)
     (λ c. search needs)
-    held-above-requires
+    occurs-above-requires
     returns
     (λ c. search needs)
     (λ c. search needs)

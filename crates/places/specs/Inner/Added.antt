@@ -29,12 +29,12 @@ abbrev pub held-from : List ℕ → ℕ → ℕ → Bool
 held-from p k v = member v (drop k (places p))
 
 -- a place above place k has the value
-abbrev pub held-above : List ℕ → ℕ → ℕ → Bool
-held-above p k v = member v (drop (k + 1) (places p))
+abbrev pub occurs-above : List ℕ → ℕ → ℕ → Bool
+occurs-above p k v = member v (drop (k + 1) (places p))
 
 -- what place k of a pointer block adds, by the slots' starts
 unfoldable pub added-at : List ℕ → List ℕ → ℕ → Added
-added-at starts p k = added (judged starts (place-value p k)) (held-above p k (place-value p k))
+added-at starts p k = added (judged starts (place-value p k)) (occurs-above p k (place-value p k))
 
 -- an order with it at its end
 unfoldable pub then : List ℕ → Added → List ℕ

@@ -8,8 +8,8 @@ use Rattle.report.proofs.put_line.Tie as tie
 returns : tie.Need-returns
 unfolding slot-line
 returns c =
-    let facts = c .before .before in
-    let name = facts .before .before .before .before in
+    let info = c .before .before in
+    let name = info .before .before .before .before in
     let name-space = name .before .before .before .before .before in
     let slot = name-space .before .before .before .before in
     let slot-space = slot .before .before .before .before .before in
@@ -19,7 +19,7 @@ returns c =
     (then (slot .put-decimal2 .ensures)
     (then (name-space .put-byte2 .ensures)
     (then (rw (name .before .slot-name .ensures) at (name .put-shown .ensures))
-    (facts .put-facts .ensures)))))
+    (info .put-info .ensures)))))
 
 pub put-line-spec : {M : Type 1} → statement M
 put-line-spec =

@@ -2,17 +2,17 @@
 use mathlib.Core.Path.{refl}
 use mathlib.Core.List.{[]}
 use borrow.Author.Needs.{needs}
-use Rattle.blocks.specs.Made.{number-bytes, places-noted}
+use Rattle.blocks.specs.Made.{number-bytes, place-list}
 use Rattle.blocks.proofs.Noting.{noted-after}
 use Rattle.blocks.proofs.pointers.one_place.Statement.{statement}
 use Rattle.blocks.proofs.pointers.one_place.Tie as tie
 
 returns : tie.Need-returns
-unfolding places-noted number-bytes
+unfolding place-list number-bytes
 returns c =
     let at-note = c .before in
     let a = at-note .before .before .args in
-    let noted = noted-after [] (a .place .0) (search needs) (search needs) 0 _ _ refl refl (at-note .note .ensures) in
+    let noted = noted-after [] (a .place .0) (search needs) (search needs) 0 _ _ refl refl (at-note .push .ensures) in
     rw noted
 
 pub one-place-spec : {M : Type 1} → statement M

@@ -9,8 +9,8 @@ use Rattle.rules.specs.Table.{entry-count}
 use Rattle.rules.specs.Commands.{delete}
 use Rattle.walks.specs.Entries.{most-entries}
 use Rattle.blocks.specs.Inner.Walked.{Readable, places-giving}
-use Rattle.blocks.specs.Made.{places-noted}
-use Rattle.blocks.specs.declared.Noted.{Noted}
+use Rattle.blocks.specs.Made.{place-list}
+use Rattle.blocks.specs.declared.PlaceList.{PlaceList}
 use Rattle.reading.specs.Inner.Located.{Located}
 use Rattle.reading.proofs.Opening.{located, has-entries, has-pointers}
 use Rattle.commands.proofs.Locating.{readable}
@@ -22,9 +22,9 @@ use Rattle.commands.proofs.deleting.delete_by.Statement.{statement}
 use Rattle.commands.proofs.deleting.delete_by.Tie as tie
 
 -- how many places were noted
-noted-count : {found : Noted} (ks : List ℕ) → found ≡ places-noted ks → found .count ≡ length ks
-unfolding places-noted
-noted-count ks e = ap (λ (f : Noted). f .count) e
+noted-count : {found : PlaceList} (ks : List ℕ) → found ≡ place-list ks → found .count ≡ length ks
+unfolding place-list
+noted-count ks e = ap (λ (f : PlaceList). f .count) e
 
 -- what the view says of where the blocks are
 where-blocks-are : (s : tie.Start) → Located (s .args .image .now) (s .args .v)
@@ -90,8 +90,8 @@ slot-start-requires c κs =
           (at-block-at .block-at .result .now) (at-block-at .block-at .ensures .0),
     )
 
-giving-requires : tie.Need-giving-requires
-giving-requires c κs = (blocks-read (c .before), c .slot-start .ensures)
+places-giving-requires : tie.Need-places-giving-requires
+places-giving-requires c κs = (blocks-read (c .before), c .slot-start .ensures)
 
 returns : tie.Need-returns
 returns c =
@@ -108,7 +108,7 @@ returns c =
     let t = at-block-at .block-at .result .now in
     let p = at-block-at2 .block-at2 .result .now in
     let ks = places-giving t p (a .slot .0) in
-    let counted = noted-count ks (at-giving .giving .ensures) in
+    let counted = noted-count ks (at-giving .places-giving .ensures) in
     drafts-refused st img (a .v) (delete (a .slot .0)) _ (numbered 43)
     (delete-refused-43 st img (a .v) (s .pre .0) (a .slot .0) (at-ask-slot .ask-slot .result)
     (at-ask-slot .ask-slot .ensures) (at-enum-told .enum-told .given .1) t p ks
@@ -188,7 +188,7 @@ returns-3 c =
     let t = at-block-at .block-at .result .now in
     let p = at-block-at2 .block-at2 .result .now in
     let ks = places-giving t p (a .slot .0) in
-    let counted = noted-count ks (at-giving .giving .ensures) in
+    let counted = noted-count ks (at-giving .places-giving .ensures) in
     delete-started st img (a .v) (s .pre .0) (a .slot .0) (at-ask-slot .ask-slot .result)
     (at-ask-slot .ask-slot .ensures) (at-enum-told .enum-told .given .1) t p ks
     (at-block-at .block-at .ensures .0) (at-block-at2 .block-at2 .ensures .0) refl (omega arith)
@@ -208,7 +208,7 @@ delete-by-spec =
     rows-of-requires
     places-of-requires
     slot-start-requires
-    giving-requires
+    places-giving-requires
     returns
     (λ c κs. search needs)
     slot-row-requires

@@ -13,8 +13,8 @@ use Rattle.rules.proofs.Pointers.PointerHeader.{places-fit}
 use Rattle.slots.proofs.RowsOf.{counted-rows, count-is}
 use Rattle.places.proofs.Free.{offset-is}
 use Rattle.blocks.specs.Inner.Walked.{Readable, places-giving}
-use Rattle.blocks.specs.Made.{places-noted}
-use Rattle.blocks.specs.declared.Noted.{Noted}
+use Rattle.blocks.specs.Made.{place-list}
+use Rattle.blocks.specs.declared.PlaceList.{PlaceList}
 use Rattle.reading.specs.Inner.Located.{Located}
 use Rattle.reading.proofs.Opening.{located, has-entries, has-pointers}
 use Rattle.commands.specs.JobFor.{disable-job}
@@ -29,9 +29,9 @@ use Rattle.commands.proofs.disabling.disable_by.Statement.{statement}
 use Rattle.commands.proofs.disabling.disable_by.Tie as tie
 
 -- how many places were noted
-noted-count : {found : Noted} (ks : List ℕ) → found ≡ places-noted ks → found .count ≡ length ks
-unfolding places-noted
-noted-count ks e = ap (λ (f : Noted). f .count) e
+noted-count : {found : PlaceList} (ks : List ℕ) → found ≡ place-list ks → found .count ≡ length ks
+unfolding place-list
+noted-count ks e = ap (λ (f : PlaceList). f .count) e
 
 -- what the view says of where the blocks are
 where-blocks-are : (s : tie.Start) → Located (s .args .image .now) (s .args .v)
@@ -97,8 +97,8 @@ slot-start-requires c κs =
           (at-block-at .block-at .result .now) (at-block-at .block-at .ensures .0),
     )
 
-giving-requires : tie.Need-giving-requires
-giving-requires c κs = (blocks-read (c .before), c .slot-start .ensures)
+places-giving-requires : tie.Need-places-giving-requires
+places-giving-requires c κs = (blocks-read (c .before), c .slot-start .ensures)
 
 returns : tie.Need-returns
 returns c =
@@ -115,7 +115,7 @@ returns c =
     let t = at-block-at .block-at .result .now in
     let p = at-block-at2 .block-at2 .result .now in
     let ks = places-giving t p (a .slot .0) in
-    let none : length ks ≡ 0 = sym (noted-count ks (at-giving .giving .ensures)) ∙ at-if1 .if1 .taken in
+    let none : length ks ≡ 0 = sym (noted-count ks (at-giving .places-giving .ensures)) ∙ at-if1 .if1 .taken in
     drafts-refused st img (a .v) (disable (a .slot .0)) _ (numbered 8)
     (disable-refused-8 st img (a .v) (s .pre .0) (a .slot .0) (at-ask-slot .ask-slot .result)
     (at-ask-slot .ask-slot .ensures) (at-enum-told .enum-told .given .1) t p
@@ -164,7 +164,7 @@ is-started c room d m =
     let t = c .before .before .before .before .before .before .before .before .before .before .block-at .result .now in
     let p = c .before .before .before .before .before .before .before .before .before .block-at2 .result .now in
     let ks = places-giving t p (a .slot .0) in
-    let some : 0 < length ks = omega (arith, noted-count ks (c .before .before .before .before .before .giving .ensures), c .before .before .before .if1 .left) in
+    let some : 0 < length ks = omega (arith, noted-count ks (c .before .before .before .before .before .places-giving .ensures), c .before .before .before .if1 .left) in
     disable-started (a .setting) (a .image .now) (a .v) (s .pre .0) (a .slot .0) (at-ask-slot .ask-slot .result)
     (at-ask-slot .ask-slot .ensures) (c .before .before .before .before .before .before .before .before .before .before .before .enum-told .given .1) t p
     (c .before .before .before .before .before .before .before .before .before .before .block-at .ensures .0) (c .before .before .before .before .before .before .before .before .before .block-at2 .ensures .0) ks refl some room d m
@@ -212,9 +212,9 @@ returns-4 c =
     let places = c .before .before .before .before .before .before .before .before .before .before .before .before .before .places-of .result in
     is-started at-test _ _
     (rw (disable-in-place (length (a .image .now)) (a .setting .granule) (a .v .cpb0) (a .v .cpb1) (starts t) p (a .slot .0)
-    (c .before .before .before .before .before .before .before .before .before .before .before .before .slot-start .result) (c .before .before .before .before .before .before .before .before .before .before .before .before .slot-start .ensures) (places .offset) (c .before .before .before .before .before .before .before .before .before .before .before .giving .result) _
+    (c .before .before .before .before .before .before .before .before .before .before .before .before .slot-start .result) (c .before .before .before .before .before .before .before .before .before .before .before .before .slot-start .ensures) (places .offset) (c .before .before .before .before .before .before .before .before .before .before .before .places-giving .result) _
     (sym (half-cleared at-test) ∙ c .before .before .before .before .before .if2 .left)
-    (offset-is p places (blocks-read (c .before .before .before .before .before .before .before .before .before .before .before .before .before) .pointers)) (c .before .before .before .before .before .before .before .before .before .before .before .giving .ensures) refl)
+    (offset-is p places (blocks-read (c .before .before .before .before .before .before .before .before .before .before .before .before .before) .pointers)) (c .before .before .before .before .before .before .before .before .before .before .before .places-giving .ensures) refl)
     at (c .before .before .into-places .ensures))
 
 pub disable-by-spec : {M : Type 1} → statement M
@@ -229,7 +229,7 @@ disable-by-spec =
     rows-of-requires
     places-of-requires
     slot-start-requires
-    giving-requires
+    places-giving-requires
     returns
     cast-at0
     cast-at1

@@ -3,7 +3,7 @@ use native.Mathlib.Omega.{arith}
 use borrow.Author.Needs.{needs}
 use Rattle.rules.specs.Answers.{unless}
 use Rattle.reading.specs.Answers.{known}
-use Rattle.inspect.specs.Entries.{facts-of, info-in}
+use Rattle.inspect.specs.Entries.{info-of, info-in}
 use Rattle.inspect.proofs.Numbered.{not-there, there, entry-found}
 use Rattle.inspect.proofs.entry.info_in.Statement.{statement}
 use Rattle.inspect.proofs.entry.info_in.Tie as tie
@@ -22,7 +22,7 @@ entry-start-requires c κs =
     (start .pre .whole, omega (arith, start .pre .few, called .entry-count .ensures, c .if1 .left))
 
 returns-2 : tie.Need-returns-2
-unfolding known info-in unless facts-of
+unfolding known info-in unless info-of
 returns-2 c =
     let passed = c .before .before .before in
     let called = passed .before .before in

@@ -5,7 +5,7 @@ use lib.Seq.{length-take-le}
 use borrow.Author.Needs.{needs}
 use Rattle.rules.specs.Table.{name}
 use Rattle.walks.specs.Entries.{entry-at}
-use Rattle.reading.proofs.SlotFacts.{name-in-front}
+use Rattle.reading.proofs.SlotInfo.{name-in-front}
 use Rattle.inspect.specs.Entries.{name-in}
 use Rattle.inspect.proofs.Numbered.{not-there, there, entry-found}
 use Rattle.inspect.proofs.entry.name_in.Statement.{statement}

@@ -5,9 +5,9 @@ use Rattle.job_bytes.proofs.Advancing.{arrays-held}
 use Rattle.job_bytes.proofs.held.run_parts.Statement.{statement}
 use Rattle.job_bytes.proofs.held.run_parts.Tie as tie
 
-run-lent-requires : tie.Need-run-lent-requires
+run-in-place-requires : tie.Need-run-in-place-requires
 unfolding job-from
-run-lent-requires c κs =
+run-in-place-requires c κs =
     let s = c .before .before .before .before .before .before .before .before .before in
     let arrays = arrays-held (s .args .bytes .now) (s .pre) in
     (arrays .first, arrays .second)
@@ -15,9 +15,9 @@ run-lent-requires c κs =
 returns : tie.Need-returns
 unfolding job-from
 returns c =
-    let at-run-lent = c .before .before in
-    let at-done = at-run-lent .before .before .before .before .before .before in
-    rw (at-done .before .plan-from .ensures, at-done .done-from .ensures) at (at-run-lent .run-lent .ensures)
+    let at-run-in-place = c .before .before in
+    let at-done = at-run-in-place .before .before .before .before .before .before in
+    rw (at-done .before .plan-from .ensures, at-done .done-from .ensures) at (at-run-in-place .run-in-place .ensures)
 
 pub run-parts-spec : {M : Type 1} → statement M
 run-parts-spec =
@@ -37,6 +37,6 @@ run-parts-spec =
     (λ c. search needs)
     (λ c. search needs)
     (λ c. search needs)
-    run-lent-requires
+    run-in-place-requires
     (λ c. search needs)
     returns)

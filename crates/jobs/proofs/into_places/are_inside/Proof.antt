@@ -51,7 +51,7 @@ loop-again c =
           (drop (at .loop .i + 1) (meant (a .count) (a .places .now))) (drop (at .loop .i) (meant (a .count) (a .places .now)))
           (at-place-address .place-address .result) (at-place-address .place-address .ensures .0)
           (number-cons (min (a .count) place-room) (at .loop .i) (at-place .place-at .result .0) (a .places .now) (at-place .place-at .ensures .0) (omega arith))
-          ∙ rw (inside, c .less .ensures),
+          ∙ rw (inside, c .saturating-sub .ensures),
     )
 
 returns-2 : tie.Need-returns-2 Inv-loop μ-loop

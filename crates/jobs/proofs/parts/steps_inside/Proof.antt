@@ -10,7 +10,7 @@ returns c =
     rw (
       c .before .part-inside .ensures,
       c .part-inside2 .ensures,
-      c .before .before .less .ensures,
+      c .before .before .saturating-sub .ensures,
       c .before .before .before .part-length .ensures .0,
     )
 

@@ -44,8 +44,8 @@ returns-2 c =
       at-beyond .beyond .ensures,
       λ g. at-program .program .ensures g
           ∙ ap (λ (ss : List Step). steps g ss (a .image .now))
-          (programs-chosen (a .window) (a .at) (a .given .now) (at-least .least .result)
-          (at-least .least .ensures)),
+          (programs-chosen (a .window) (a .at) (a .given .now) (at-least .min .result)
+          (at-least .min .ensures)),
     )
 
 pub do-range-spec : {M : Type 1} → statement M

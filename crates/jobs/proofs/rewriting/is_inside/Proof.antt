@@ -17,9 +17,9 @@ returns c =
       at-ends-by .ends-by .ensures,
       at-are-inside2 .are-inside2 .ensures,
       c .are-inside3 .ensures,
-      at-less3 .less3 .ensures,
-      at-less2 .less2 .ensures,
-      at-less2 .before .less .ensures,
+      at-less3 .saturating-sub3 .ensures,
+      at-less2 .saturating-sub2 .ensures,
+      at-less2 .before .saturating-sub .ensures,
     )
 
 pub is-inside-spec : {M : Type 1} → statement M

@@ -8,7 +8,7 @@ returns : tie.Need-returns
 unfolding beyond
 returns c =
     let at-less2 = c .before in
-    rw (c .less3 .ensures, at-less2 .less2 .ensures, at-less2 .before .less .ensures)
+    rw (c .saturating-sub3 .ensures, at-less2 .saturating-sub2 .ensures, at-less2 .before .saturating-sub .ensures)
 
 pub beyond-spec : {M : Type 1} → statement M
 beyond-spec = tie.close (tie.spec (λ c κs. search needs) (λ c κs. search needs) (λ c κs. search needs) returns)

@@ -55,10 +55,10 @@ returns-3 c =
         (
           ap length found ∙ kept-given (λ e. length (e .name)) (a .count .now) e,
           (
-            kept-given (λ e. e .facts .start) (a .start .now) e,
+            kept-given (λ e. e .info .start) (a .start .now) e,
             (
-              kept-given (λ e. e .facts .size) (a .size .now) e,
-              kept-given (λ e. e .facts .flags) (a .flags .now) e,
+              kept-given (λ e. e .info .size) (a .size .now) e,
+              kept-given (λ e. e .info .flags) (a .flags .now) e,
             ),
           ),
         ),

@@ -10,7 +10,7 @@ returns : tie.Need-returns
 unfolding known
 returns c =
     let a = c .before .before .before .before .before .args in
-    let e = sym (ap known (c .before .known .given .1)) ∙ c .before .before .before .slot-facts .ensures in (
+    let e = sym (ap known (c .before .known .given .1)) ∙ c .before .before .before .slot-info .ensures in (
       number-refused e,
       (
         kept-refused (λ f. f .entry .0) (a .entry .now) e,
@@ -25,7 +25,7 @@ returns-2 : tie.Need-returns-2
 unfolding known
 returns-2 c =
     let a = c .before .before .before .before .before .before .args in
-    let e = sym (ap known (c .before .before .known2 .given .1)) ∙ c .before .before .before .before .slot-facts .ensures in (
+    let e = sym (ap known (c .before .before .known2 .given .1)) ∙ c .before .before .before .before .slot-info .ensures in (
       number-given e,
       (
         kept-given (λ f. f .entry .0) (a .entry .now) e,

@@ -19,7 +19,7 @@ unfolding known
 returns c =
     let a = c .before .before .before .before .before .before .before .args in
     let s = setting (a .granule) (a .spt0) (a .spt1) in
-    let f = sym (ap known (c .before .before .enum-told .given .1)) ∙ c .before .before .before .before .slot-facts .ensures in
+    let f = sym (ap known (c .before .before .enum-told .given .1)) ∙ c .before .before .before .before .slot-info .ensures in
     written-refused (a .name .now) (a .count .now)
     (name-too-long s (a .image .now) (a .slot) (length (a .name .now)) f (rw (← c .before .slot-name .ensures) (c .if1 .taken)))
 
@@ -28,7 +28,7 @@ unfolding known
 returns-2 c =
     let a = c .before .before .before .before .before .before .args in
     let s = setting (a .granule) (a .spt0) (a .spt1) in
-    let f = sym (ap known (c .before .known .given .1)) ∙ c .before .before .before .slot-facts .ensures in
+    let f = sym (ap known (c .before .known .given .1)) ∙ c .before .before .before .slot-info .ensures in
     written-refused (a .name .now) (a .count .now) (name-refused s (a .image .now) (a .slot) (length (a .name .now)) f)
 
 returns-3 : tie.Need-returns-3
@@ -36,10 +36,10 @@ unfolding known
 returns-3 c =
     let at-if1 = c .before .before .before .before in
     let at-enum-told = at-if1 .before .before in
-    let at-slot-facts = at-enum-told .before .before in
-    let a = at-slot-facts .before .before .before .args in
+    let at-slot-info = at-enum-told .before .before in
+    let a = at-slot-info .before .before .before .args in
     let s = setting (a .granule) (a .spt0) (a .spt1) in
-    let f = sym (ap known (at-enum-told .enum-told .given .1)) ∙ at-slot-facts .slot-facts .ensures in
+    let f = sym (ap known (at-enum-told .enum-told .given .1)) ∙ at-slot-info .slot-info .ensures in
     let found = at-if1 .before .slot-name .ensures in
     let e = name-given s (a .image .now) (a .slot) (length (a .name .now)) f (rw (← found) (at-if1 .if1 .left)) in
     record {

@@ -36,7 +36,7 @@ returns-3 c =
     let value = at-if .before in
     let s = value .before .before .before .before in
     let a = s .args in
-    c .held-above .ensures
+    c .occurs-above .ensures
     ∙ sym (member-goes (a .v)
     (place-turn (a .p .now) 0 (omega (arith, count-is (a .p .now) (a .places) (s .pre .0))))
     (λ e. at-if .if2 .left (e ∙ sym (value .place-value .ensures))))
