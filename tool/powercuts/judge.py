@@ -2,18 +2,44 @@
 
 import collections
 import os
+import re
+import struct
 import subprocess
 
 from . import layout
 
 ALL_STEPS = 4294967295
+NO_SLOT = 4294967295
 PIECE = 4096
+NO_STATE = "bytes of no state"
 
 Reading = collections.namedtuple("Reading", "order table")
 Step = collections.namedtuple("Step", "erases address byte")
 # done: how many steps fit the bytes, lowest and highest; inside: the erase that was cut, or None
 State = collections.namedtuple("State", "lowest highest inside")
 Verdict = collections.namedtuple("Verdict", "state kind is_new violations")
+
+
+# ---- Names of slots
+
+
+def slot_names(table):
+    """The names of a table's slots, by slot number."""
+    rows = (struct.unpack_from("<16sQII", table, 32 + 32 * row) for row in range(struct.unpack_from("<I", table, 8)[0]))
+    names = [(name.split(b"\0")[0].decode("latin-1"), flags) for name, _, _, flags in rows]
+    return [name for name, flags in names if flags & 3 == 0 and name not in layout.SYSTEM]
+
+
+def numbered(line, table):
+    """A command's line with the numbers that the named slots have in this table."""
+    names = slot_names(table)
+    return re.sub(r"\{(.*?)\}", lambda found: str(names.index(found[1]) if found[1] in names else NO_SLOT), line)
+
+
+def named(words, table):
+    """A command's words with the names that the numbered slots have in this table."""
+    names = dict(enumerate(slot_names(table)))
+    return [re.sub(r"\{(\d+)\}", lambda found: names.get(int(found[1]), "nobody"), word) for word in words]
 
 
 # ---- The independent implementation
@@ -39,15 +65,16 @@ def read_lines(case):
     return ["order", "repair", f"run {ALL_STEPS}"] + peek_lines(case)
 
 
-def given_lines(case):
+def given_lines(case, image, reading):
     """The command run to its end, and the reading then. Nothing may follow: after a refusal `run` ends the script."""
-    return [case.line, f"run {ALL_STEPS}"] + peek_lines(case) + read_lines(case)
+    line = numbered(case.line, reading.table)
+    return image_lines(image, case) + [line, f"run {ALL_STEPS}"] + peek_lines(case) + read_lines(case)
 
 
 def state_lines(case, state):
     """So many steps of the command, done by the independent implementation."""
     done = 0 if state is None else state.lowest
-    return image_lines(case.start, case) + [case.line, f"run {done}"] + peek_lines(case)
+    return image_lines(case.start, case) + [numbered(case.line, case.old.table), f"run {done}"] + peek_lines(case)
 
 
 class Answers:
@@ -96,9 +123,8 @@ class Case:
         self.judged = {}  # image to what was found: many cuts leave the same bytes
         self.blocks = layout.block_starts(erase_size)
         self.steps = self.plan_steps()
-        answers = Answers(rig, image_lines(start, self) + read_lines(self) + image_lines(start, self) + given_lines(self))
-        self.old, _ = answers.take_reading()
-        self.answer, self.end, self.new = answers.take_given(self, start, self.old)
+        self.old, _ = Answers(rig, image_lines(start, self) + read_lines(self)).take_reading()
+        self.answer, self.end, self.new = Answers(rig, given_lines(self, start, self.old)).take_given(self, start, self.old)
 
     def with_granules(self, image, granules):
         image = bytearray(image)
@@ -236,8 +262,8 @@ def judge_alone(case, image):
 
 def judge_reading(case, image, state):
     """The state, the reading, the repair, the command given again: by the independent implementation and by the tool."""
-    answers = Answers(case.rig, state_lines(case, state) + image_lines(image, case) + read_lines(case) + ["repair"] + given_lines(case))
-    violations = [] if is_confirmed(case, answers, image, state) else ["bytes of no state"]
+    answers = Answers(case.rig, state_lines(case, state) + image_lines(image, case) + read_lines(case) + ["repair"])
+    violations = [] if is_confirmed(case, answers, image, state) else [NO_STATE]
     reading, granules = answers.take_reading()
     if reading not in (case.old, case.new):
         violations.append("reading neither old nor new")
@@ -245,7 +271,7 @@ def judge_reading(case, image, state):
     repaired = case.with_granules(image, granules)
     if case.result_of_tool(image, ["--repair"]) != (0, repaired) or answers.take() != "job 0":
         violations.append("repair")
-    return is_new, violations + judge_again(case, answers, repaired, reading, is_new)
+    return is_new, violations + judge_again(case, repaired, reading, is_new)
 
 
 def is_confirmed(case, answers, image, state):
@@ -258,8 +284,9 @@ def is_confirmed(case, answers, image, state):
     return all(start == skipped or now == should for start, now, should in zip(case.blocks, case.granules(image), granules))
 
 
-def judge_again(case, answers, repaired, reading, is_new):
+def judge_again(case, repaired, reading, is_new):
     """The command given once more on the repaired flash: it finishes, or is answered as where it took effect."""
+    answers = Answers(case.rig, given_lines(case, repaired, reading))
     answer, again, reading = answers.take_given(case, repaired, reading)
     expected = case.again if is_new else 0
     is_answered = answer.startswith("job") if expected == 0 else answer == f"refused {expected}"

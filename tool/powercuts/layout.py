@@ -14,10 +14,11 @@ SYSTEM = ("BOOT_INFO", "FACTORY_IMAGE") + BLOCKS
 SLOTS = ("P1", "P2", "P3", "P4")
 SLOT_LENGTH = 0x1000
 ROOM_AFTER_SLOTS = 0x4000
+REST = b"\xa5"  # what a granule holds after its block, so that an erase can be seen to its end
 
 # places: what the pointer block holds, lowest first. torn: blocks whose first bytes are lost at the start.
-# words: for rsu-image. line: for the independent implementation. again: what the tool answers to the same command
-# where the new reading is there already (0: it finishes, with 0 steps).
+# words: for rsu-image. line: for the independent implementation, `{NAME}` being the number of that slot in the flash it
+# is given. again: what the tool answers to the same command where the new reading is there already (0: it finishes).
 Command = collections.namedtuple("Command", "name places torn words line again")
 
 
@@ -26,21 +27,28 @@ def name_line(name):
 
 
 COMMANDS = (
-    Command("enable", ["P1", "P2"], [], ["--enable", "P3"], "enable 2", 0),
-    Command("enable, block full", ["P1", "P2"] * 254, [], ["--enable", "P3"], "enable 2", 0),
-    Command("disable", ["P2", "P1"], [], ["--disable", "P1"], "disable 0", 8),
-    Command("disable, three places", ["P1", "P2", "P1", "P3", "P1"], [], ["--disable", "P1"], "disable 0", 8),
-    Command("disable by a rewrite", ["P1", "P2"], [], ["--disable", "P2"], "disable 1", 8),
+    Command("enable", ["P1", "P2"], [], ["--enable", "P3"], "enable {P3}", 0),
+    Command("enable, block full", ["P1", "P2"] * 254, [], ["--enable", "P3"], "enable {P3}", 0),
+    Command("disable", ["P2", "P1"], [], ["--disable", "P1"], "disable {P1}", 8),
+    Command("disable, three places", ["P1", "P2", "P1", "P3", "P1"], [], ["--disable", "P1"], "disable {P1}", 8),
+    Command("disable by a rewrite", ["P1", "P2"], [], ["--disable", "P2"], "disable {P2}", 8),
     Command("rename", ["P1", "P2"], [], ["--rename", "0", "fifteen-bytes.."], "rename 0 " + name_line("fifteen-bytes.."), 0),
+    Command("create", ["P1", "P2"], [], ["--create", "P5", "8192"], "create 8192 " + name_line("P5"), 10),
+    Command("delete, first slot", ["P3", "P2"], [], ["--delete", "P1"], "delete {P1}", 7),
+    Command("delete, last slot", ["P1", "P2"], [], ["--delete", "P4"], "delete {P4}", 7),
     Command("repair, pointer block", ["P1", "P2"], ["CPB1"], ["--repair"], "repair", 0),
     Command("repair, table and pointer block", ["P1", "P2"], ["SPT0", "CPB0"], ["--repair"], "repair", 0),
 )
 
-# What a list is drawn from: the same two forms of each command, slots by number, since a rename changes the names.
+# What a list is drawn from: slots by number, since a rename changes the names. Delete takes a name alone: `{1}` is the
+# name that slot 1 has then.
 LIST_COMMANDS = (
-    [(["--enable", str(slot)], f"enable {slot}") for slot in range(len(SLOTS))]
+    [(["--enable", str(slot)], f"enable {slot}") for slot in range(len(SLOTS) + 1)]
     + [(["--disable", str(slot)], f"disable {slot}") for slot in range(len(SLOTS))]
     + [(["--rename", str(slot), name], f"rename {slot} {name_line(name)}") for slot, name in enumerate(("NEW", "P2", "P3", "R4"))]
+    + [(["--create", name, str(size)], f"create {size} {name_line(name)}")
+       for name, size in (("C1", 0x1000), ("C2", 0x2000), ("C3", 0x1000), ("P4", 0x1000))]
+    + [(["--delete", f"{{{slot}}}"], f"delete {slot}") for slot in range(len(SLOTS) + 1)]
     + [(["--repair"], "repair")] * 4
 )
 
@@ -68,6 +76,8 @@ def start_image(command, erase_size):
     """The flash as it is before the command."""
     at = images.starts(entries(erase_size))
     flash = images.image(entries(erase_size), [at[name] for name in command.places], length(erase_size))
+    for name in BLOCKS:
+        flash[at[name] + images.BLOCK : at[name] + erase_size] = REST * (erase_size - images.BLOCK)
     for name in command.torn:
         flash[at[name] : at[name] + 16] = images.ERASED * 16
     return bytes(flash)

@@ -1,8 +1,10 @@
 """An emulated machine whose flash is a file here. It can be stopped like a clock, and killed like a machine."""
 
+import json
 import os
 import re
 import signal
+import socket
 import subprocess
 import threading
 import time
@@ -11,7 +13,15 @@ FLASH_AT = 0x100000000
 FILE_LENGTH = 16 << 20
 PATIENCE = 600  # seconds: the computer may be busy
 PAUSE_MIN, PAUSE_MAX = 0.00002, 0.001  # seconds between two looks at the machine's time
+TICK = 0.005  # seconds: the machine's time is not told more finely than this
 LONGEST_SAID = 64  # no pattern that is waited for is longer
+# What QEMU is told. Slow: it translates one instruction at a time, and is some thirty times slower. Crawl: it also
+# writes down all registers before each instruction, to nowhere.
+PACES = {
+    "fast": ("log none", "singlestep off"),
+    "slow": ("log none", "singlestep on"),
+    "crawl": ("log exec,cpu,nochain", "singlestep on"),
+}
 
 
 class Silence(Exception):
@@ -34,14 +44,20 @@ class Machine:
         self.text, self.changed, self.is_over = "", threading.Condition(), False
         kernel_words = "console=ttyS0 quiet panic=-1 no_timer_check lpj=4000000 mitigations=off"
         kernel_words += f" flash_at={FLASH_AT:#x} flash_length={length} flash_erase={erase_size}"
+        self.monitor, its_end = socket.socketpair()
         self.process = subprocess.Popen(
             ["qemu-system-x86_64", "-accel", "tcg", "-cpu", cpu, "-m", "256M,slots=1,maxmem=1G", "-machine", "pc,nvdimm=on",
              "-object", f"memory-backend-file,id=f,share=on,size={FILE_LENGTH},mem-path={flash_path}",
              "-device", f"nvdimm,memdev=f,addr={FLASH_AT:#x}", "-kernel", rig.vmlinux, "-initrd", rig.initrd,
-             "-append", kernel_words, "-display", "none", "-nodefaults", "-serial", "stdio", "-no-reboot"],
-            stdin=subprocess.PIPE, stdout=subprocess.PIPE, stderr=subprocess.STDOUT)
+             "-append", kernel_words, "-display", "none", "-nodefaults", "-serial", "stdio", "-no-reboot",
+             "-D", "/dev/null", "-chardev", f"socket,id=monitor,fd={its_end.fileno()}", "-mon", "chardev=monitor,mode=control"],
+            stdin=subprocess.PIPE, stdout=subprocess.PIPE, stderr=subprocess.STDOUT, pass_fds=[its_end.fileno()])
+        its_end.close()
+        self.orders = self.monitor.makefile("rw")
         threading.Thread(target=self._listen, daemon=True).start()
         try:
+            self.orders.readline()
+            self.order(("qmp_capabilities", {}))
             self.wait_for("@ready")
         except BaseException:
             self.end()
@@ -92,6 +108,21 @@ class Machine:
         self.send("killall -9 rsu-image apply-steps $(cd /bin; echo rsu-image-*) 2>/dev/null")
         return self.ended()
 
+    def order(self, *orders):
+        """Gives QEMU itself some orders, while it is stopped so that they are the next thing it does: the answers."""
+        self.stop()
+        for name, arguments in orders:
+            self.orders.write(json.dumps({"execute": name, "arguments": arguments}) + "\n")
+        self.orders.flush()
+        self.go_on()
+        answers = [answer for answer in (json.loads(self.orders.readline() or "{}") for _ in orders) if "return" in answer]
+        if len(answers) < len(orders):
+            raise Silence("QEMU takes no orders")
+
+    def pace(self, name):
+        """Has QEMU go on as fast as it can, or slowly. The machine does the same instructions in the same order."""
+        self.order(*[("human-monitor-command", {"command-line": line}) for line in PACES[name]])
+
     def flash(self):
         with open(self.flash_path, "rb") as file:
             return file.read(self.length)
@@ -112,6 +143,9 @@ class Machine:
 
     def let_run(self, seconds):
         """Waits until the machine has had so much more processor time, or what was begun has ended."""
+        if seconds < TICK:
+            time.sleep(seconds)
+            return
         until, deadline, pause, before = self.used() + seconds, time.monotonic() + PATIENCE, PAUSE_MIN, None
         while (now := self.used()) < until and "@end" not in self.text and time.monotonic() < deadline:
             pause = min(2 * pause, PAUSE_MAX) if now == before else PAUSE_MIN
@@ -128,3 +162,5 @@ class Machine:
         if self.process.poll() is None:
             self.kill()
         self.process.stdin.close()
+        self.orders.close()
+        self.monitor.close()

@@ -23,15 +23,15 @@ PROGRAMS = {
     "apt-get": "apt",
 }
 MODULES = ("mtd", "phram")
-# how it is named in planted-fault.c, what it does, and a command that it changes
-Fault = collections.namedtuple("Fault", "name words command program")
+# how it is named in planted-fault.c, what it does, a command that it changes, whether it tells each step
+Fault = collections.namedtuple("Fault", "name words command tells_steps program")
 FAULTS = [
-    Fault(name, words, command, "rsu-image-" + name)
-    for name, words, command in (
-        ("magic-first", "the magic written first", "enable, block full"),
-        ("cpb0-first", "CPB0 before CPB1", "enable"),
-        ("top-byte-first", "a pointer's top byte first", "enable"),
-        ("one-write", "the whole block in one write", "rename"),
+    Fault(name, words, command, tells_steps, "rsu-image-" + name)
+    for name, words, command, tells_steps in (
+        ("magic-first", "the magic written first", "enable, block full", True),
+        ("cpb0-first", "CPB0 before CPB1", "enable", True),
+        ("top-byte-first", "a pointer's top byte first", "enable", True),
+        ("one-write", "the whole block in one write", "rename", False),
     )
 ]
 
@@ -188,6 +188,7 @@ class Rig:
 
     def __init__(self, folder):
         require_packages()
+        folder = os.path.abspath(folder)
         os.makedirs(folder, exist_ok=True)
         self.folder = folder
         kernel = unpacked_kernel(folder)

@@ -7,6 +7,7 @@
 #include <stdlib.h>
 #include <string.h>
 #include <sys/ioctl.h>
+#include <time.h>
 #include <unistd.h>
 
 #include "apply-steps.h"
@@ -94,16 +95,16 @@ static void plant(void) {
 #endif
 
 #ifdef FAULT_ONE_WRITE
-/* Each erased block is written by one call. */
+/* Each erased block is written by one call. Its last step alone is told, some time before, so that the machine can be made
+ * to crawl: the call is short. */
 static int write_block(int device, size_t from, size_t end) {
     static unsigned char block[BLOCK];
     unsigned long start = block_of(&plan.steps[from]) * plan.granule;
     memset(block, 0xFF, sizeof block);
-    for (size_t i = from; i < end; i++) {
-        block[plan.steps[i].address - start] = (unsigned char)plan.steps[i].byte;
-        printf("%zu\n", i + 1);
-    }
+    for (size_t i = from; i < end; i++) block[plan.steps[i].address - start] = (unsigned char)plan.steps[i].byte;
+    printf("%zu\n", end);
     fflush(stdout);
+    nanosleep(&(struct timespec){0, 50000000}, NULL);
     return pwrite(device, block, sizeof block, (off_t)start) == BLOCK;
 }
 
@@ -113,11 +114,14 @@ static int carry_out(const char *path) {
         struct erase_info_user where = {(unsigned)plan.steps[i].address, (unsigned)plan.granule};
         unsigned char byte = (unsigned char)plan.steps[i].byte;
         if (!plan.steps[i].erases) {
+            printf("%zu\n", i + 1);
+            fflush(stdout);
             is_done = pwrite(device, &byte, 1, (off_t)plan.steps[i].address) == 1;
             continue;
         }
         size_t end = block_end(i);
         printf("%zu\n", i + 1);
+        fflush(stdout);
         is_done = ioctl(device, MEMERASE, &where) == 0 && write_block(device, i + 1, end);
         i = end - 1;
     }

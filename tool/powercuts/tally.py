@@ -19,7 +19,9 @@ class Tally:
         self.counts = {}
         self.where = collections.Counter()
         self.ways = collections.Counter()
-        self.insides = self.boots = self.lists = 0
+        self.insides = collections.Counter()  # cuts inside an erase, by command and by erase size and CPU model
+        self.kills = collections.Counter()
+        self.boots = self.lists = 0
         self.images = set()
         self.items = collections.Counter()
         self.choices = collections.Counter()
@@ -29,13 +31,12 @@ class Tally:
     def join(self, other):
         """Adds what was counted elsewhere."""
         for mine, more in ((self.kinds, other.kinds), (self.where, other.where), (self.ways, other.ways), (self.items, other.items),
-                           (self.choices, other.choices)):
+                           (self.choices, other.choices), (self.insides, other.insides), (self.kills, other.kills)):
             mine.update(more)
         for key, steps in other.steps.items():
             self.steps[key] |= steps
         self.counts.update(other.counts)
         self.images |= other.images
-        self.insides += other.insides
         self.boots += other.boots
         self.lists += other.lists
         self.violations += other.violations
@@ -48,11 +49,13 @@ class Tally:
         self.ways[way] += 1
         self.where[(runs.erase_size, runs.cpu)] += 1
         self.kinds[(case.name, verdict.kind)] += 1
+        self.kills[case.name] += way == "killed"
         self.counts[case.name] = len(case.steps)
         self.images.add((case.name, runs.erase_size, hashlib.sha256(image).digest()))
         if verdict.state is not None:
             self.steps[(case.name, verdict.kind)].add(verdict.state.lowest)
-            self.insides += verdict.state.inside is not None
+            if verdict.state.inside is not None:
+                self.insides.update([case.name, (runs.erase_size, runs.cpu)])
         self.note(case, runs, verdict.violations, image)
 
     def note(self, case, runs, violations, image):
@@ -88,11 +91,13 @@ class Tally:
     # ---- Printing
 
     def kind_rows(self):
-        rows = ["| Command | Steps | " + " | ".join(KINDS) + " |", "| --- | ---: |" + " ---: |" * len(KINDS)]
+        titles = ("Steps", *KINDS, "inside an erase", "killed")
+        rows = ["| Command | " + " | ".join(titles) + " |", "| --- |" + " ---: |" * len(titles)]
         for command in layout.COMMANDS:
             if command.name not in self.counts:
                 continue
             cells = [self.kind_cell(command.name, kind) for kind in KINDS]
+            cells += [str(self.insides[command.name]), str(self.kills[command.name])]
             rows.append(f"| {command.name} | {self.counts[command.name]:,} | " + " | ".join(cells) + " |")
         return rows
 
@@ -109,12 +114,14 @@ class Tally:
         cpus = sorted({cpu for _, cpu in self.where})
         rows = ["| Erase size | " + " | ".join(cpus) + " |", "| ---: |" + " ---: |" * len(cpus)]
         for erase_size in sorted({size for size, _ in self.where}):
-            rows.append(f"| {erase_size:,} | " + " | ".join(str(self.where[(erase_size, cpu)]) for cpu in cpus) + " |")
+            cells = [f"{self.where[(erase_size, cpu)]} ({self.insides[(erase_size, cpu)]})" for cpu in cpus]
+            rows.append(f"| {erase_size:,} | " + " | ".join(cells) + " |")
         return rows
 
     def report(self):
         lines = [f"stopped cuts: {self.ways['stopped']:,}; kills with a boot: {self.ways['killed']}; boots: {self.boots}; "
-                 f"different images: {len(self.images):,}; inside an erase: {self.insides}; violations: {len(self.violations)}", ""]
+                 f"different images: {len(self.images):,}; "
+                 f"inside an erase: {sum(self.insides[command.name] for command in layout.COMMANDS)}; violations: {len(self.violations)}", ""]
         lines += self.kind_rows() + [""] + self.where_rows()
         if self.lists:
             items = ", ".join(f"{how} {count}" for how, count in sorted(self.items.items()))
