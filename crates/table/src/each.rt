@@ -42,35 +42,36 @@ fn pair_keeps(rule: PairRule, table: &[u8], d: EntryNo, e: EntryNo) -> bool
 }
 
 // The number of the first of n entries that does not keep the rule; n where all keep it.
-pub fn first_failing(rule: Rule, table: &[u8], n: usize) -> usize
+pub fn first_failing(rule: Rule, table: &[u8], n: usize) -> EntryNo
     requires { ⌜ HasEntries (now table) n × (0 < divisor rule) ⌝ }
-    ensures { λ r. ⌜ r ≡ first-failing (keeps rule) (rows n (now (table .entry))) ⌝ }
+    ensures { λ r. ⌜ r .0 ≡ first-failing (keeps rule) (rows n (now (table .entry))) ⌝ }
 {
     let mut i = 0;
     while i < n {
         if !entry_keeps(rule, table, EntryNo(i)) {
-            return i;
+            return EntryNo(i);
         }
         i += 1;
     }
-    n
+    EntryNo(n)
 }
 
 // The number of the first entry, from one on, that does not keep the rule with an earlier one; n where all keep it.
-pub fn first_clash(rule: PairRule, table: &[u8], n: usize, from: usize) -> usize
-    requires { ⌜ HasEntries (now table) n × (from ≤ n) ⌝ }
-    ensures { λ r. ⌜ r
-        ≡ from
-        + first-clash (both-keep rule) (entries-before (now (table .entry)) from) (drop from (rows n (now (table .entry)))) ⌝ }
+pub fn first_clash(rule: PairRule, table: &[u8], n: usize, from: EntryNo) -> EntryNo
+    requires { ⌜ HasEntries (now table) n × (from .0 ≤ n) ⌝ }
+    ensures { λ r. ⌜ r .0
+        ≡ from .0
+        + first-clash (both-keep rule) (entries-before (now (table .entry)) (from .0))
+        (drop (from .0) (rows n (now (table .entry)))) ⌝ }
 {
-    let mut i = from;
+    let mut i = from.0;
     while i < n {
         if !earlier_keep(rule, table, EntryNo(i)) {
-            return i;
+            return EntryNo(i);
         }
         i += 1;
     }
-    n
+    EntryNo(n)
 }
 
 // An entry keeps the rule with each earlier one.

@@ -24,23 +24,23 @@ pub fn entries_fault(table: &[u8], n: usize, len: u64, setting: Setting) -> Faul
     ensures { λ r. ⌜ r ≡ entries-fault setting len (rows n (now (table .entry))) ⌝ }
 {
     let e = each::first_failing(Rule::NameRight, table, n);
-    if e != n {
+    if e.0 != n {
         return broken_at(3, e);
     }
     let e = naming::first_same(table, n);
-    if e != n {
+    if e.0 != n {
         return broken_at(4, e);
     }
     let e = each::first_failing(Rule::RangeAligned, table, n);
-    if e != n {
+    if e.0 != n {
         return broken_at(5, e);
     }
     let e = each::first_failing(Rule::RangeInside(len), table, n);
-    if e != n {
+    if e.0 != n {
         return broken_at(6, e);
     }
     let e = ranges::first_overlap(table, n);
-    if e != n {
+    if e.0 != n {
         return broken_at(7, e);
     }
     six_fault(table, n, setting)
@@ -53,7 +53,7 @@ fn six_fault(table: &[u8], n: usize, setting: Setting) -> Fault
 {
     let found = six::find_six(table, n);
     if !six::six_are_named(found, n) {
-        return broken_at(8, NO_ENTRY);
+        return broken_at(8, EntryNo(NO_ENTRY));
     }
     if !six::boot_info_is_at_0(table, found) {
         let e = each::first_failing(Rule::BootInfoRight, table, n);
@@ -73,12 +73,9 @@ fn six_fault(table: &[u8], n: usize, setting: Setting) -> Fault
     NO_FAULT
 }
 
-// A rule broken at the entry of a number.
-pub fn broken_at(rule: u8, entry: usize) -> Fault
-    ensures { λ r. ⌜ r ≡ broken rule entry ⌝ }
+// A rule broken at an entry.
+pub fn broken_at(rule: u8, entry: EntryNo) -> Fault
+    ensures { λ r. ⌜ r ≡ broken rule (entry .0) ⌝ }
 {
-    Fault {
-        rule,
-        entry: EntryNo(entry),
-    }
+    Fault { rule, entry }
 }

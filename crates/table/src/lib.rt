@@ -74,10 +74,10 @@ pub fn table_fault(image: &[u8], at: usize, setting: Setting) -> Fault
 {
     let table = fields::block_at(image, at);
     if !header_is_right(table) {
-        return faults::broken_at(1, faults::NO_ENTRY);
+        return faults::broken_at(1, EntryNo(faults::NO_ENTRY));
     }
     if !count_is_right(table) {
-        return faults::broken_at(2, faults::NO_ENTRY);
+        return faults::broken_at(2, EntryNo(faults::NO_ENTRY));
     }
     let n = entries::entry_count(table);
     let len = image.len() as u64;
@@ -99,11 +99,16 @@ fn entries_stand(table: &[u8], n: usize, len: u64, setting: Setting) -> bool
     requires { ⌜ HasEntries (now table) n × (0 < setting .granule) ⌝ }
     ensures { λ r. ⌜ r ≡ entries-stand setting len (rows n (now (table .entry))) ⌝ }
 {
-    (each::first_failing(Rule::NameRight, table, n) == n)
-        & (naming::first_same(table, n) == n)
-        & (each::first_failing(Rule::RangeAligned, table, n) == n)
-        & (each::first_failing(Rule::RangeInside(len), table, n) == n)
-        & (ranges::first_overlap(table, n) == n)
+    let unnamed = each::first_failing(Rule::NameRight, table, n);
+    let same = naming::first_same(table, n);
+    let unaligned = each::first_failing(Rule::RangeAligned, table, n);
+    let outside = each::first_failing(Rule::RangeInside(len), table, n);
+    let overlapping = ranges::first_overlap(table, n);
+    (unnamed.0 == n)
+        & (same.0 == n)
+        & (unaligned.0 == n)
+        & (outside.0 == n)
+        & (overlapping.0 == n)
         & six::six_keep(table, n, setting)
 }
 

@@ -32,14 +32,15 @@ pub fn names_differ(table: &[u8], d: EntryNo, e: EntryNo) -> bool
 
 // The number of the first of n entries that has the name of an earlier one; n where all names differ. Where each is
 // followed by zeros alone, as they mostly are, its field is compared as it stands, eight bytes at a time.
-pub fn first_same(table: &[u8], n: usize) -> usize
+pub fn first_same(table: &[u8], n: usize) -> EntryNo
     requires { ⌜ HasEntries (now table) n ⌝ }
-    ensures { λ r. ⌜ r ≡ first-clash names-differ [] (rows n (now (table .entry))) ⌝ }
+    ensures { λ r. ⌜ r .0 ≡ first-clash names-differ [] (rows n (now (table .entry))) ⌝ }
 {
-    if each::first_failing(Rule::NamePadded, table, n) == n {
-        return each::first_clash(PairRule::FieldsDiffer, table, n, 0);
+    let other = each::first_failing(Rule::NamePadded, table, n);
+    if other.0 == n {
+        return each::first_clash(PairRule::FieldsDiffer, table, n, EntryNo(0));
     }
-    each::first_clash(PairRule::NamesDiffer, table, n, 0)
+    each::first_clash(PairRule::NamesDiffer, table, n, EntryNo(0))
 }
 
 // The name is followed by zeros alone.

@@ -76,10 +76,10 @@ fn ascending(table: &[u8], n: usize) -> usize
 
 // The number of the first of n entries whose range overlaps that of an earlier one; n where none does. As long as
 // they ascend, as they mostly do, none does; from there on each is compared with the earlier ones.
-pub fn first_overlap(table: &[u8], n: usize) -> usize
+pub fn first_overlap(table: &[u8], n: usize) -> EntryNo
     requires { ⌜ HasEntries (now table) n ⌝ }
-    ensures { λ r. ⌜ r ≡ first-clash ranges-apart [] (rows n (now (table .entry))) ⌝ }
+    ensures { λ r. ⌜ r .0 ≡ first-clash ranges-apart [] (rows n (now (table .entry))) ⌝ }
 {
-    let from = ascending(table, n);
-    each::first_clash(PairRule::RangesApart, table, n, from)
+    let count = ascending(table, n);
+    each::first_clash(PairRule::RangesApart, table, n, EntryNo(count))
 }

@@ -10,16 +10,14 @@ use Rattle.table.proofs.entries_stand.Tie as tie
 returns : tie.Need-returns
 unfolding keeps
 returns c =
-    let c5 = c .before .before .before in
-    let c3 = c5 .before .before in
-    let a = c3 .before .before .args in
+    let a = c .before .before .before .before .before .before .before .before .before .before .before .before .args in
     let t = a .table .now in
     rw (
-      all-by-number (a .n) t name-right (c3 .first-failing .ensures),
-      pairs-by-number (a .n) t names-differ (c5 .before .first-same .ensures),
-      all-by-number (a .n) t range-aligned (c5 .first-failing2 .ensures),
-      all-by-number (a .n) t (range-inside (a .len)) (c .before .before .first-failing3 .ensures),
-      pairs-by-number (a .n) t ranges-apart (c .before .first-overlap .ensures),
+      all-by-number (a .n) t name-right (c .before .before .before .before .before .before .before .before .before .before .first-failing .ensures),
+      pairs-by-number (a .n) t names-differ (c .before .before .before .before .before .before .before .before .before .first-same .ensures),
+      all-by-number (a .n) t range-aligned (c .before .before .before .before .before .before .before .before .first-failing2 .ensures),
+      all-by-number (a .n) t (range-inside (a .len)) (c .before .before .before .before .before .before .before .first-failing3 .ensures),
+      pairs-by-number (a .n) t ranges-apart (c .before .before .before .before .before .before .first-overlap .ensures),
       c .six-keep .ensures,
     )
     (rules-3-to-11 (a .setting) (a .len) (rows (a .n) t))

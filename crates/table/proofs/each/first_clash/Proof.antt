@@ -15,13 +15,13 @@ use Rattle.table.proofs.each.first_clash.Statement.{statement}
 use Rattle.table.proofs.each.first_clash.Tie as tie
 
 abbrev Inv-loop : tie.InvT-loop
-Inv-loop rule table n from i₀ i =
+Inv-loop rule table n i₀ i =
     (i ≤ n)
-    × (from + first-clash (both-keep rule) (entries-before table from) (drop from (rows n table))
+    × (i₀ + first-clash (both-keep rule) (entries-before table i₀) (drop i₀ (rows n table))
     ≡ i + first-clash (both-keep rule) (entries-before table i) (drop i (rows n table)))
 
 abbrev μ-loop : tie.MeasureT-loop
-μ-loop rule table n from i₀ i = n - i
+μ-loop rule table n i₀ i = n - i
 
 returns : tie.Need-returns Inv-loop μ-loop
 returns c =

@@ -16,89 +16,78 @@ use Rattle.table.proofs.faults.entries_fault.Tie as tie
 abbrev judged : tie.Start → List Entry
 judged start = rows (start .args .n) (start .args .table .now)
 
-rule3 : (c : tie.Else1) → all name-right (judged (c .before .before .before)) ≡ true
+rule3 : (c : tie.Else1) → all name-right (judged (c .before .before .before .before)) ≡ true
 unfolding keeps
 rule3 c =
-    let a = c .before .before .before .args in
-    kept (all-by-number (a .n) (a .table .now) name-right (c .before .first-failing .ensures)) (c .if1 .left)
+    let a = c .before .before .before .before .args in
+    kept (all-by-number (a .n) (a .table .now) name-right (c .before .before .first-failing .ensures)) (c .if1 .left)
 
-rule4 : (c : tie.Else2) → pairwise names-differ (judged (c .before .before .before .before .before)) ≡ true
+rule4 : (c : tie.Else2) → pairwise names-differ (judged (c .before .before .before .before .before .before .before)) ≡ true
 rule4 c =
-    let a = c .before .before .before .before .before .args in
-    kept (pairs-by-number (a .n) (a .table .now) names-differ (c .before .first-same .ensures)) (c .if2 .left)
+    let a = c .before .before .before .before .before .before .before .args in
+    kept (pairs-by-number (a .n) (a .table .now) names-differ (c .before .before .first-same .ensures)) (c .if2 .left)
 
-rule5 : (c : tie.Else3) → all range-aligned (judged (c .before .before .before .before .before .before .before)) ≡ true
+rule5 : (c : tie.Else3) → all range-aligned (judged (c .before .before .before .before .before .before .before .before .before .before)) ≡ true
 unfolding keeps
 rule5 c =
-    let a = c .before .before .before .before .before .before .before .args in
-    kept (all-by-number (a .n) (a .table .now) range-aligned (c .before .first-failing2 .ensures)) (c .if3 .left)
+    let a = c .before .before .before .before .before .before .before .before .before .before .args in
+    kept (all-by-number (a .n) (a .table .now) range-aligned (c .before .before .first-failing2 .ensures)) (c .if3 .left)
 
 rule6 : (c : tie.Else4)
-    → let start = c .before .before .before .before .before .before .before .before .before in
+    → let start = c .before .before .before .before .before .before .before .before .before .before .before .before .before in
     all (range-inside (start .args .len)) (judged start) ≡ true
 unfolding keeps
 rule6 c =
-    let a = c .before .before .before .before .before .before .before .before .before .args in
-    kept (all-by-number (a .n) (a .table .now) (range-inside (a .len)) (c .before .first-failing3 .ensures)) (c .if4 .left)
+    let a = c .before .before .before .before .before .before .before .before .before .before .before .before .before .args in
+    kept (all-by-number (a .n) (a .table .now) (range-inside (a .len)) (c .before .before .first-failing3 .ensures))
+    (c .if4 .left)
 
 returns : tie.Need-returns
 unfolding keeps
 returns c =
-    let a = c .before .before .before .before .args in
+    let a = c .before .before .before .before .before .args in
     c .broken-at .ensures
     ∙ sym (fault-3 (a .setting) (a .len) (a .n) (a .table .now)
-    (c .before .before .first-failing .ensures) (c .before .if1 .taken))
+    (c .before .before .before .first-failing .ensures) (c .before .if1 .taken))
 
 returns-2 : tie.Need-returns-2
 returns-2 c =
-    let c3 = c .before .before .before in
-    let a = c3 .before .before .before .args in
+    let a = c .before .before .before .before .before .before .before .before .args in
     c .broken-at2 .ensures
-    ∙ sym (fault-4 (a .setting) (a .len) (a .n) (a .table .now) (rule3 c3)
-    (c .before .before .first-same .ensures) (c .before .if2 .taken))
+    ∙ sym (fault-4 (a .setting) (a .len) (a .n) (a .table .now) (rule3 (c .before .before .before .before))
+    (c .before .before .before .first-same .ensures) (c .before .if2 .taken))
 
 returns-3 : tie.Need-returns-3
 unfolding keeps
 returns-3 c =
-    let c4 = c .before .before .before in
-    let c3 = c4 .before .before in
-    let a = c3 .before .before .before .args in
+    let a = c .before .before .before .before .before .before .before .before .before .before .before .args in
     c .broken-at3 .ensures
-    ∙ sym (fault-5 (a .setting) (a .len) (a .n) (a .table .now) (rule3 c3) (rule4 c4)
-    (c .before .before .first-failing2 .ensures) (c .before .if3 .taken))
+    ∙ sym (fault-5 (a .setting) (a .len) (a .n) (a .table .now) (rule3 (c .before .before .before .before .before .before .before)) (rule4 (c .before .before .before .before))
+    (c .before .before .before .first-failing2 .ensures) (c .before .if3 .taken))
 
 returns-4 : tie.Need-returns-4
 unfolding keeps
 returns-4 c =
-    let c5 = c .before .before .before in
-    let c4 = c5 .before .before in
-    let c3 = c4 .before .before in
-    let a = c3 .before .before .before .args in
+    let a = c .before .before .before .before .before .before .before .before .before .before .before .before .before .before .args in
     c .broken-at4 .ensures
-    ∙ sym (fault-6 (a .setting) (a .len) (a .n) (a .table .now) (rule3 c3) (rule4 c4) (rule5 c5)
-    (c .before .before .first-failing3 .ensures) (c .before .if4 .taken))
+    ∙ sym (fault-6 (a .setting) (a .len) (a .n) (a .table .now) (rule3 (c .before .before .before .before .before .before .before .before .before .before)) (rule4 (c .before .before .before .before .before .before .before)) (rule5 (c .before .before .before .before))
+    (c .before .before .before .first-failing3 .ensures) (c .before .if4 .taken))
 
 returns-5 : tie.Need-returns-5
 returns-5 c =
-    let c6 = c .before .before .before in
-    let c5 = c6 .before .before in
-    let c4 = c5 .before .before in
-    let c3 = c4 .before .before in
-    let a = c3 .before .before .before .args in
+    let a = c .before .before .before .before .before .before .before .before .before .before .before .before .before .before .before .before .before .args in
     c .broken-at5 .ensures
-    ∙ sym (fault-7 (a .setting) (a .len) (a .n) (a .table .now) (rule3 c3) (rule4 c4) (rule5 c5) (rule6 c6)
-    (c .before .before .first-overlap .ensures) (c .before .if5 .taken))
+    ∙ sym (fault-7 (a .setting) (a .len) (a .n) (a .table .now) (rule3 (c .before .before .before .before .before .before .before .before .before .before .before .before .before)) (rule4 (c .before .before .before .before .before .before .before .before .before .before)) (rule5 (c .before .before .before .before .before .before .before))
+    (rule6 (c .before .before .before .before)) (c .before .before .before .first-overlap .ensures) (c .before .if5 .taken))
 
 returns-6 : tie.Need-returns-6
 returns-6 c =
-    let c6 = c .before .before .before in
-    let c5 = c6 .before .before in
-    let c4 = c5 .before .before in
-    let c3 = c4 .before .before in
-    let a = c3 .before .before .before .args in
+    let a = c .before .before .before .before .before .before .before .before .before .before .before .before .before .before .before .before .before .args in
     c .six-fault .ensures
-    ∙ sym (fault-of-six (a .setting) (a .len) (a .n) (a .table .now) (rule3 c3) (rule4 c4) (rule5 c5) (rule6 c6)
-    (kept (pairs-by-number (a .n) (a .table .now) ranges-apart (c .before .before .first-overlap .ensures)) (c .before .if5 .left)))
+    ∙ sym (fault-of-six (a .setting) (a .len) (a .n) (a .table .now) (rule3 (c .before .before .before .before .before .before .before .before .before .before .before .before .before)) (rule4 (c .before .before .before .before .before .before .before .before .before .before)) (rule5 (c .before .before .before .before .before .before .before))
+    (rule6 (c .before .before .before .before))
+    (kept (pairs-by-number (a .n) (a .table .now) ranges-apart (c .before .before .before .first-overlap .ensures))
+    (c .before .if5 .left)))
 
 pub entries-fault-spec : {M : Type 1} → statement M
 entries-fault-spec =

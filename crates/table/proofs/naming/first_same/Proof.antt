@@ -12,8 +12,8 @@ use Rattle.table.proofs.naming.first_same.Tie as tie
 returns : tie.Need-returns
 unfolding keeps both-keep entries-before
 returns c =
-    let search = c .before .before in
-    let a = search .before .before .args in
+    let search = c .before .before .before in
+    let a = c .before .before .before .before .before .args in
     let known = all-by-number (a .n) (a .table .now) padded (search .first-failing .ensures) in
     let by-fields = same-by-fields (rows (a .n) (a .table .now)) (kept known (c .before .if1 .taken)) in
     rw by-fields (omega (arith, c .first-clash .ensures))
