@@ -1,6 +1,6 @@
 -- The two blocks that a view names can be read as the commands read them, and so can the first 4,096 bytes of a slot.
 -- Assumes nothing.
-use mathlib.Core.Path.{_≡_}
+use mathlib.Core.Path.{_≡_, ap}
 use mathlib.Core.List.{List}
 use Prim.Native.Nat.{ℕ, _+_, _≤_, _<_}
 use lib.ListN.{length, getD}
@@ -21,6 +21,8 @@ use Rattle.slots.proofs.RowsOf.{count-of-rows}
 use Rattle.places.specs.Inner.PlacesOf.{places-of}
 use Rattle.places.specs.declared.Places.{Places}
 use Rattle.blocks.specs.Inner.Walked.{Readable}
+use Rattle.blocks.specs.Made.{place-list}
+use Rattle.blocks.specs.declared.PlaceList.{PlaceList}
 
 -- the table and the pointer block read, walked
 module _ {img : List ℕ} {v : View} (l : Located img v) where
@@ -38,6 +40,11 @@ module _ {img : List ℕ} {v : View} (l : Located img v) where
     table = has-rows t r at-table er;
     pointers = record { block = has-pointers l p at-pointers; places = ek };
   }
+
+-- how many places a list has
+pub listed-count : {found : PlaceList} (ks : List ℕ) → found ≡ place-list ks → found .count ≡ length ks
+unfolding place-list
+listed-count ks e = ap (λ (f : PlaceList). f .count) e
 
 -- a slot of the table read
 pub slot-inside : (s : Setting) (img : List ℕ) (v : View) → view s img ≡ given v

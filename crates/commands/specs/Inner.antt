@@ -1,2 +1,3 @@
 pub mod Asked
 pub mod Drafted
+pub mod Found

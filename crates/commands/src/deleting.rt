@@ -1,11 +1,10 @@
 // Delete, once the view of the flash is known.
 use super::Draft;
 use super::Outcome;
+use super::givings;
 use super::refusals;
 use blocks::Target;
 use blocks::made;
-use blocks::pointers;
-use blocks::tables;
 use rooms::rows;
 use rules::NO_FAULT;
 use rules::Refusal;
@@ -32,14 +31,8 @@ pub fn delete_by(image: &[u8], setting: Setting, v: View, slot: SlotNo, room: &m
     match asked {
         Outcome::Refused(why) => Draft::Refused(why),
         Outcome::Started => {
-            let table_at = v.table;
-            let pointers_at = v.pointers;
-            let t = fields::block_at(image, table_at);
-            let p = fields::block_at(image, pointers_at);
-            let listed = slots::rows_of(t);
-            let places = places::places_of(p);
-            let start = tables::slot_start(t, listed, slot);
-            let found = pointers::places_giving(t, listed, p, places, slot, start);
+            let given = givings::slot_places(image, v, slot);
+            let found = given.found;
             if 0 < found.count {
                 return Draft::Refused(Refusal {
                     number: 43,
@@ -47,6 +40,8 @@ pub fn delete_by(image: &[u8], setting: Setting, v: View, slot: SlotNo, room: &m
                     fault1: NO_FAULT,
                 });
             }
+            let table_at = v.table;
+            let t = fields::block_at(image, table_at);
             let n = entries::entry_count(t);
             let row = slots::slot_row(t, n, slot);
             let at0 = v.spt0 as u32;

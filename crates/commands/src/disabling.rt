@@ -2,11 +2,11 @@
 use super::Draft;
 use super::Outcome;
 use super::drafts;
+use super::givings;
 use super::refusals;
 use blocks::Target;
 use blocks::made;
 use blocks::packing;
-use blocks::pointers;
 use blocks::tables;
 use rules::NO_FAULT;
 use rules::Refusal;
@@ -33,14 +33,8 @@ pub fn disable_by(image: &[u8], setting: Setting, v: View, slot: SlotNo, room: &
     match asked {
         Outcome::Refused(why) => Draft::Refused(why),
         Outcome::Started => {
-            let table_at = v.table;
-            let pointers_at = v.pointers;
-            let t = fields::block_at(image, table_at);
-            let p = fields::block_at(image, pointers_at);
-            let rows = slots::rows_of(t);
-            let places = places::places_of(p);
-            let start = tables::slot_start(t, rows, slot);
-            let found = pointers::places_giving(t, rows, p, places, slot, start);
+            let given = givings::slot_places(image, v, slot);
+            let found = given.found;
             if found.count == 0 {
                 return Draft::Refused(Refusal {
                     number: 8,
@@ -56,8 +50,14 @@ pub fn disable_by(image: &[u8], setting: Setting, v: View, slot: SlotNo, room: &
                 at0: at0,
                 at1: at1,
             };
+            let table_at = v.table;
+            let pointers_at = v.pointers;
+            let t = fields::block_at(image, table_at);
+            let p = fields::block_at(image, pointers_at);
+            let rows = given.rows;
+            let places = given.places;
             // A start half cleared that names another slot must not be left by a cut.
-            if tables::half_cleared_names(t, rows.count, start) {
+            if tables::half_cleared_names(t, rows.count, given.start) {
                 packing::order_without(t, rows, p, places, slot, room);
                 return Draft::Rewritten(made::pair_plan(to));
             }

@@ -1,6 +1,7 @@
 // The six commands, started on a lent image that is only read: an answer beside a job.
 mod drafts; // drafts, and what a start returns by one
 mod refusals; // refusals 6 and 7
+mod givings; // the places that give a slot
 mod pairs; // two copies compared, and the copy not read
 mod enabling; // enable
 mod disabling; // disable, and refusal 8
@@ -8,13 +9,16 @@ mod renaming; // rename, and refusals 9 and 10
 mod creating; // create, and refusals 40 to 42
 mod deleting; // delete, and refusal 43
 
+use blocks::PlaceList;
 use jobs::Job;
 use jobs::Plan;
+use places::Places;
 use reading::Viewed;
 use rules::Refusal;
 use rules::Setting;
 use rules::SlotNo;
 use rules::View;
+use slots::Rows;
 ghost use mathlib.Core.Path.{_≡_};
 ghost use lib.ListN.{length};
 ghost use Rattle.rules.specs.Bytes.{block-size};
@@ -48,6 +52,14 @@ pub enum Draft {
     Rewritten(Plan),
     IntoPlaces(Plan, u64),
     Repaired(Plan, usize, usize),
+}
+
+// The places that give a slot, with its start and what was read to find them.
+pub struct SlotPlaces {
+    pub rows: Rows,
+    pub places: Places,
+    pub start: u64,
+    pub found: PlaceList,
 }
 
 // A start: the job, which is the one of no steps where it was refused, and the answer.
