@@ -5,14 +5,14 @@ ghost use lib.ListN.{length};
 ghost use Rattle.rules.specs.Bytes.{bytes-of, block-size};
 ghost use Rattle.blocks.specs.Made.{erased-block};
 
-pub fn erased_block() -> [u8; 4096]
+pub fn erased_block() -> [u8; rules::BLOCK_SIZE]
     ensures { λ r. ⌜ r ≡ erased-block ⌝ }
 {
-    [0xFF; 4096]
+    [0xFF; rules::BLOCK_SIZE]
 }
 
 // A lent block, by value.
-pub fn copied(block: &[u8]) -> [u8; 4096]
+pub fn copied(block: &[u8]) -> [u8; rules::BLOCK_SIZE]
     requires { ⌜ length (now block) ≡ block-size ⌝ }
     ensures { λ r. ⌜ r ≡ now (block .entry) ⌝ }
 {

@@ -7,7 +7,7 @@ pub mod made; // jobs, and their plans
 
 // The numbers of some places, two bytes each, in the front of an array.
 pub struct PlaceList {
-    pub places: [u8; 1016],
+    pub places: [u8; jobs::PLACES_SIZE],
     pub count: usize,
 }
 

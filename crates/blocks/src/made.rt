@@ -18,7 +18,7 @@ pub fn no_job() -> Job
         done: 0,
         first: bytes::erased_block(),
         second: bytes::erased_block(),
-        places: [0; 1016],
+        places: [0; jobs::PLACES_SIZE],
         value: [0; 8],
     }
 }

@@ -75,7 +75,7 @@ pub fn places_giving(
     ensures { λ r. ⌜ r ≡ place-list (places-giving (now (t .entry)) (now (p .entry)) (slot .0)) ⌝ }
 {
     let end = places.free.0;
-    let mut numbers = [0; 1016];
+    let mut numbers = [0; jobs::PLACES_SIZE];
     let mut met = 0;
     let mut next = 0;
     while next < end {
@@ -122,7 +122,7 @@ pub fn one_place(place: PlaceNo) -> PlaceList
     requires { ⌜ place .0 < place-room ⌝ }
     ensures { λ r. ⌜ r ≡ place-list (place .0 ∷ []) ⌝ }
 {
-    let mut numbers = [0; 1016];
+    let mut numbers = [0; jobs::PLACES_SIZE];
     push(&mut numbers, 0, place);
     PlaceList {
         places: numbers,

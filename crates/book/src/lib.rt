@@ -20,7 +20,7 @@ pub mod parts;
 
 // A reading: the table copy read, and the boot order.
 pub struct Book {
-    pub table: [u8; 4096],
+    pub table: [u8; rules::BLOCK_SIZE],
     pub order: Order,
 }
 
@@ -56,7 +56,7 @@ pub fn read_book(image: &[u8], setting: Setting) -> Read
     }
 }
 
-fn book_of(table: [u8; 4096], row: [u32; order::ROOM], count: usize) -> Book
+fn book_of(table: [u8; rules::BLOCK_SIZE], row: [u32; order::ROOM], count: usize) -> Book
     ensures { λ r. ⌜ r ≡ record { table = table; order = record { row = row; count = count } } ⌝ }
 {
     Book {
@@ -126,7 +126,7 @@ fn deleted(book: Book, slot: SlotNo) -> Book
     )
 }
 
-fn with_order(table: [u8; 4096], order: Order) -> Book
+fn with_order(table: [u8; rules::BLOCK_SIZE], order: Order) -> Book
     ensures { λ r. ⌜ r ≡ record { table = table; order = order } ⌝ }
 {
     Book {

@@ -121,7 +121,7 @@ pub fn with_first(order: Order, slot: SlotNo) -> Order
 {
     let old = order.row;
     let n = meant(order);
-    if entries::MOST_ENTRIES < n {
+    if rules::MOST_ENTRIES < n {
         return order;
     }
     let mut row = no_slots();

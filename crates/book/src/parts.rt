@@ -44,14 +44,14 @@ pub fn same_bytes(a: &[u8], b: &[u8]) -> bool
     check::same(a, b)
 }
 
-pub fn no_block() -> [u8; 4096]
+pub fn no_block() -> [u8; rules::BLOCK_SIZE]
     ensures { λ r. ⌜ r ≡ no-block ⌝ }
 {
-    [0; 4096]
+    [0; rules::BLOCK_SIZE]
 }
 
 // A lent block by value.
-pub fn block_of(part: &[u8]) -> [u8; 4096]
+pub fn block_of(part: &[u8]) -> [u8; rules::BLOCK_SIZE]
     requires { ⌜ length (now part) ≡ block-size ⌝ }
     ensures { λ r. ⌜ r ≡ now (part .entry) ⌝ }
 {
@@ -61,7 +61,7 @@ pub fn block_of(part: &[u8]) -> [u8; 4096]
 }
 
 // A table with the new name in the entry of a slot; as it was where it has no such slot.
-pub fn renamed(table: [u8; 4096], slot: SlotNo) -> [u8; 4096]
+pub fn renamed(table: [u8; rules::BLOCK_SIZE], slot: SlotNo) -> [u8; rules::BLOCK_SIZE]
     ensures { λ r. ⌜ r ≡ cond (has-slot table (slot .0)) (renamed table (slot .0) new-name) table ⌝ }
 {
     if !has_slot(table, slot) {
@@ -78,18 +78,18 @@ pub fn renamed(table: [u8; 4096], slot: SlotNo) -> [u8; 4096]
 }
 
 // A table has such a slot, among no more entries than there is room for.
-pub fn has_slot(table: [u8; 4096], slot: SlotNo) -> bool
+pub fn has_slot(table: [u8; rules::BLOCK_SIZE], slot: SlotNo) -> bool
     ensures { λ r. ⌜ r ≡ has-slot table (slot .0) ⌝ }
 {
     let n = entries::entry_count(&table);
-    if entries::MOST_ENTRIES < n {
+    if rules::MOST_ENTRIES < n {
         return false;
     }
     (slot.0 as usize) < slots::count_slots(&table, n)
 }
 
 // The entry of a slot that a table has.
-fn entry_of(table: [u8; 4096], slot: SlotNo) -> EntryNo
+fn entry_of(table: [u8; rules::BLOCK_SIZE], slot: SlotNo) -> EntryNo
     requires { ⌜ has-slot table (slot .0) ≡ true ⌝ }
     ensures { λ r. ⌜ r .0 ≡ slot-row (entries table) (slot .0) ⌝ }
 {
@@ -98,7 +98,7 @@ fn entry_of(table: [u8; 4096], slot: SlotNo) -> EntryNo
 }
 
 // A table without the row of a slot that it has.
-pub fn without_slot(table: [u8; 4096], slot: SlotNo) -> [u8; 4096]
+pub fn without_slot(table: [u8; rules::BLOCK_SIZE], slot: SlotNo) -> [u8; rules::BLOCK_SIZE]
     requires { ⌜ has-slot table (slot .0) ≡ true ⌝ }
     ensures { λ r. ⌜ r ≡ without-row table (slot-row (entries table) (slot .0)) ⌝ }
 {
@@ -133,11 +133,16 @@ fn start_for(image: &[u8], setting: Setting, size: u64) -> u64
 fn has_row(n: usize, size: u64) -> bool
     ensures { λ r. ⌜ r ≡ has-row n size ⌝ }
 {
-    (n < entries::MOST_ENTRIES) & ((size != 0) & (size % 4096 == 0))
+    (n < rules::MOST_ENTRIES) & rooms::starts::size_right(size)
 }
 
 // A table with a row for a new slot of this length on a flash; as it was where no row is left or the length is not right.
-pub fn with_new_slot(table: [u8; 4096], image: &[u8], setting: Setting, size: u32) -> [u8; 4096]
+pub fn with_new_slot(
+    table: [u8; rules::BLOCK_SIZE],
+    image: &[u8],
+    setting: Setting,
+    size: u32,
+) -> [u8; rules::BLOCK_SIZE]
     ensures { λ r. ⌜
         r ≡ cond (has-row (entry-count table) size)
         (with-new-row table new-name (start-for setting (now (image .entry)) size) size) table

@@ -7,10 +7,14 @@ use blocks::tables;
 use rooms::rows;
 use rooms::starts;
 use rules::EntryNo;
-use rules::NO_FAULT;
-use rules::Refusal;
 use rules::Setting;
 use rules::View;
+use rules::refusals::COPIES_DIFFER;
+use rules::refusals::LENGTH_WRONG;
+use rules::refusals::NAME_NOT_ALLOWED;
+use rules::refusals::NAME_TAKEN;
+use rules::refusals::NO_ROW_LEFT;
+use rules::refusals::NO_START;
 ghost use mathlib.Core.Path.{_≡_};
 ghost use mathlib.Core.Bool.{_&&_, not};
 ghost use lib.Dec.{eqb};
@@ -18,18 +22,11 @@ ghost use lib.ListN.{length};
 ghost use Rattle.rules.specs.Bytes.{block-size};
 ghost use Rattle.rules.specs.Answers.{given};
 ghost use Rattle.rules.specs.Copies.{view};
-ghost use Rattle.rules.specs.Commands.{create, size-right};
+ghost use Rattle.rules.specs.Commands.{create};
 ghost use Rattle.reading.specs.Inner.Located.{Located};
 ghost use Rattle.commands.specs.Begins.{job-by};
 ghost use Rattle.commands.specs.Inner.Drafted.{Drafts};
 ghost use Rattle.commands.specs.Inner.Asked.{outcome, new-asked};
-
-// The length of a new slot is a multiple of 4,096 and not 0.
-fn size_right(size: u64) -> bool
-    ensures { λ r. ⌜ r ≡ size-right size ⌝ }
-{
-    (size != 0) & (size % 4096 == 0)
-}
 
 // Refusals 6, 9, 10, 40 and 41: both pairs agree, the name may be given and no entry has it, the length is right, and a
 // row is left.
@@ -38,42 +35,22 @@ fn ask_new(image: &[u8], v: View, name: &[u8], size: u64) -> Outcome
     ensures { λ r. ⌜ outcome r ≡ new-asked (now (image .entry)) v (now (name .entry)) size ⌝ }
 {
     if !(copies::same_blocks(image, v.spt0, v.spt1) & copies::same_blocks(image, v.cpb0, v.cpb1)) {
-        return Outcome::Refused(Refusal {
-            number: 6,
-            fault0: NO_FAULT,
-            fault1: NO_FAULT,
-        });
+        return Outcome::Refused(COPIES_DIFFER);
     }
     if !tables::name_allowed(name) {
-        return Outcome::Refused(Refusal {
-            number: 9,
-            fault0: NO_FAULT,
-            fault1: NO_FAULT,
-        });
+        return Outcome::Refused(NAME_NOT_ALLOWED);
     }
     let at = v.table;
     let t = fields::block_at(image, at);
     let n = entries::entry_count(t);
     if !tables::name_free(t, n, EntryNo(n), name) {
-        return Outcome::Refused(Refusal {
-            number: 10,
-            fault0: NO_FAULT,
-            fault1: NO_FAULT,
-        });
+        return Outcome::Refused(NAME_TAKEN);
     }
-    if !size_right(size) {
-        return Outcome::Refused(Refusal {
-            number: 40,
-            fault0: NO_FAULT,
-            fault1: NO_FAULT,
-        });
+    if !starts::size_right(size) {
+        return Outcome::Refused(LENGTH_WRONG);
     }
-    if entries::MOST_ENTRIES <= n {
-        return Outcome::Refused(Refusal {
-            number: 41,
-            fault0: NO_FAULT,
-            fault1: NO_FAULT,
-        });
+    if rules::MOST_ENTRIES <= n {
+        return Outcome::Refused(NO_ROW_LEFT);
     }
     Outcome::Started
 }
@@ -106,11 +83,7 @@ pub fn create_by(
             let len = image.len() as u64;
             let start = starts::lowest_start(t, n, p, places, len, long);
             if len <= start {
-                return Draft::Refused(Refusal {
-                    number: 42,
-                    fault0: NO_FAULT,
-                    fault1: NO_FAULT,
-                });
+                return Draft::Refused(NO_START);
             }
             let at0 = v.spt0 as u32;
             let at1 = v.spt1 as u32;

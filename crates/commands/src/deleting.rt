@@ -6,11 +6,10 @@ use super::refusals;
 use blocks::Target;
 use blocks::made;
 use rooms::rows;
-use rules::NO_FAULT;
-use rules::Refusal;
 use rules::Setting;
 use rules::SlotNo;
 use rules::View;
+use rules::refusals::IN_ORDER;
 ghost use mathlib.Core.Path.{_≡_};
 ghost use lib.ListN.{length};
 ghost use Rattle.rules.specs.Bytes.{block-size};
@@ -34,11 +33,7 @@ pub fn delete_by(image: &[u8], setting: Setting, v: View, slot: SlotNo, room: &m
             let given = givings::slot_places(image, v, slot);
             let found = given.found;
             if 0 < found.count {
-                return Draft::Refused(Refusal {
-                    number: 43,
-                    fault0: NO_FAULT,
-                    fault1: NO_FAULT,
-                });
+                return Draft::Refused(IN_ORDER);
             }
             let table_at = v.table;
             let t = fields::block_at(image, table_at);

@@ -8,11 +8,10 @@ use blocks::Target;
 use blocks::made;
 use blocks::packing;
 use blocks::tables;
-use rules::NO_FAULT;
-use rules::Refusal;
 use rules::Setting;
 use rules::SlotNo;
 use rules::View;
+use rules::refusals::NOT_IN_ORDER;
 ghost use mathlib.Core.Path.{_≡_};
 ghost use lib.ListN.{length};
 ghost use Rattle.rules.specs.Bytes.{block-size};
@@ -36,11 +35,7 @@ pub fn disable_by(image: &[u8], setting: Setting, v: View, slot: SlotNo, room: &
             let given = givings::slot_places(image, v, slot);
             let found = given.found;
             if found.count == 0 {
-                return Draft::Refused(Refusal {
-                    number: 8,
-                    fault0: NO_FAULT,
-                    fault1: NO_FAULT,
-                });
+                return Draft::Refused(NOT_IN_ORDER);
             }
             let at0 = v.cpb0 as u32;
             let at1 = v.cpb1 as u32;

@@ -43,7 +43,7 @@ fn started(job: Job) -> StartResult
 }
 
 // A job with no step done that rewrites two blocks.
-fn rewriting(plan: Plan, first: [u8; 4096], second: [u8; 4096]) -> Job
+fn rewriting(plan: Plan, first: [u8; rules::BLOCK_SIZE], second: [u8; rules::BLOCK_SIZE]) -> Job
     ensures { λ r. ⌜ r ≡ lent plan 0 first second no-places no-value ⌝ }
 {
     Job {
@@ -51,18 +51,18 @@ fn rewriting(plan: Plan, first: [u8; 4096], second: [u8; 4096]) -> Job
         done: 0,
         first: first,
         second: second,
-        places: [0; 1016],
+        places: [0; jobs::PLACES_SIZE],
         value: [0; 8],
     }
 }
 
 // The numbers of places in the front of the room, by value.
-fn numbers_in(room: &[u8]) -> [u8; 1016]
+fn numbers_in(room: &[u8]) -> [u8; jobs::PLACES_SIZE]
     requires { ⌜ length (now room) ≡ block-size ⌝ }
     ensures { λ r. ⌜ r ≡ take (2 * place-room) (now (room .entry)) ⌝ }
 {
-    let mut numbers = [0; 1016];
-    fields::stores::copy(&mut numbers, 0, &room[..1016]);
+    let mut numbers = [0; jobs::PLACES_SIZE];
+    fields::stores::copy(&mut numbers, 0, &room[..jobs::PLACES_SIZE]);
     numbers
 }
 

@@ -9,11 +9,11 @@ use blocks::packing;
 use blocks::pointers;
 use blocks::tables;
 use places::Places;
-use rules::NO_FAULT;
-use rules::Refusal;
 use rules::Setting;
 use rules::SlotNo;
 use rules::View;
+use rules::refusals::NO_PLACE_LEFT;
+use rules::refusals::SLOT_EMPTY;
 use slots::Rows;
 ghost use mathlib.Core.Path.{_≡_};
 ghost use mathlib.Core.Bool.{true};
@@ -44,21 +44,13 @@ pub fn enable_by(image: &[u8], setting: Setting, v: View, slot: SlotNo, room: &m
             let rows = slots::rows_of(t);
             let start = tables::slot_start(t, rows, slot);
             if copies::is_erased(image, start as usize) {
-                return Draft::Refused(Refusal {
-                    number: 14,
-                    fault0: NO_FAULT,
-                    fault1: NO_FAULT,
-                });
+                return Draft::Refused(SLOT_EMPTY);
             }
             let pointers_at = v.pointers;
             let p = fields::block_at(image, pointers_at);
             let places = places::places_of(p);
             if !packing::enough_places(t, rows, p, places, slot) {
-                return Draft::Refused(Refusal {
-                    number: 15,
-                    fault0: NO_FAULT,
-                    fault1: NO_FAULT,
-                });
+                return Draft::Refused(NO_PLACE_LEFT);
             }
             let at0 = v.cpb0 as u32;
             let at1 = v.cpb1 as u32;

@@ -6,11 +6,11 @@ use blocks::Target;
 use blocks::made;
 use blocks::tables;
 use rules::EntryNo;
-use rules::NO_FAULT;
-use rules::Refusal;
 use rules::Setting;
 use rules::SlotNo;
 use rules::View;
+use rules::refusals::NAME_NOT_ALLOWED;
+use rules::refusals::NAME_TAKEN;
 ghost use mathlib.Core.Path.{_≡_};
 ghost use Prim.Native.Nat.{_≤_, _<_};
 ghost use mathlib.Core.Bool.{cond};
@@ -44,22 +44,14 @@ pub fn rename_by(
         Outcome::Refused(why) => Draft::Refused(why),
         Outcome::Started => {
             if !tables::name_allowed(name) {
-                return Draft::Refused(Refusal {
-                    number: 9,
-                    fault0: NO_FAULT,
-                    fault1: NO_FAULT,
-                });
+                return Draft::Refused(NAME_NOT_ALLOWED);
             }
             let table_at = v.table;
             let t = fields::block_at(image, table_at);
             let n = entries::entry_count(t);
             let row = slots::slot_row(t, n, slot);
             if !tables::name_free(t, n, row, name) {
-                return Draft::Refused(Refusal {
-                    number: 10,
-                    fault0: NO_FAULT,
-                    fault1: NO_FAULT,
-                });
+                return Draft::Refused(NAME_TAKEN);
             }
             let at0 = v.spt0 as u32;
             let at1 = v.spt1 as u32;

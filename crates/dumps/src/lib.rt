@@ -19,7 +19,7 @@ pub fn standing_dump<'a>(a: &'a [u8], b: &'a [u8]) -> &'a [u8]
 fn dump_stands(dump: &[u8]) -> bool
     ensures { λ r. ⌜ r ≡ dump-stands (now (dump .entry)) ⌝ }
 {
-    if dump.len() != fields::BLOCK_SIZE {
+    if dump.len() != rules::BLOCK_SIZE {
         return false;
     }
     places::block_stands(dump)

@@ -13,9 +13,7 @@ const FIRST_ENTRY: usize = 0x20;
 
 const ENTRY_LENGTH: usize = 32;
 
-// The entries that a table has room for, and the bytes of a name with its zero.
-pub const MOST_ENTRIES: usize = 127;
-
+// The bytes of a name with its zero.
 pub const NAME_LENGTH: usize = 16;
 
 pub fn entry_count(table: &[u8]) -> usize

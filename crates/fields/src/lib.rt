@@ -1,13 +1,11 @@
 // Little-endian fields of lent bytes, and the part of an image that is a block.
 ghost use mathlib.Core.Path.{_≡_};
 ghost use Prim.Native.Nat.{_+_, _≤_, _<_};
+ghost use lib.Dec.{leb};
 ghost use lib.ListN.{length};
 ghost use Rattle.rules.specs.Bytes.{field, block, block-size};
 
 pub mod stores; // numbers and bytes into lent bytes
-
-// The length of a table and of a pointer block, and the unit of every partition.
-pub const BLOCK_SIZE: usize = 4096;
 
 // The field of 4 bytes at an offset.
 pub fn le32(s: &[u8], at: usize) -> u64
@@ -30,7 +28,17 @@ pub fn block_at(image: &[u8], at: usize) -> &[u8]
     requires { ⌜ at + block-size ≤ length (now image) ⌝ }
     ensures { λ r. ⌜ (now r ≡ block (now (image .entry)) at) × (length (now r) ≡ block-size) ⌝ }
 {
-    &image[at..at + BLOCK_SIZE]
+    &image[at..at + rules::BLOCK_SIZE]
+}
+
+// A range ends at a bound or before it: exact, where start + size would wrap.
+pub fn ends_by(start: u64, size: u64, bound: u64) -> bool
+    ensures { λ r. ⌜ r ≡ leb (start + size) bound ⌝ }
+{
+    if bound < start {
+        return false;
+    }
+    size <= bound - start
 }
 
 // The field of 2 bytes at an offset.

@@ -3,10 +3,9 @@ use super::Total;
 use reading::Known;
 use reading::Viewed;
 use rules::EntryNo;
-use rules::NO_FAULT;
-use rules::Refusal;
 use rules::Setting;
 use rules::SlotInfo;
+use rules::refusals::NO_SUCH_ENTRY;
 ghost use mathlib.Core.Path.{_≡_};
 ghost use Rattle.rules.specs.Table.{entry-count, entries};
 ghost use Rattle.reading.specs.Answers.{known};
@@ -62,11 +61,7 @@ fn info_in(t: &[u8], entry: EntryNo) -> Known
     ensures { λ r. ⌜ known r ≡ info-in (entries (now (t .entry))) (entry .0) ⌝ }
 {
     if entries::entry_count(t) <= entry.0 {
-        return Known::Refused(Refusal {
-            number: 92,
-            fault0: NO_FAULT,
-            fault1: NO_FAULT,
-        });
+        return Known::Refused(NO_SUCH_ENTRY);
     }
     Known::Is(SlotInfo {
         entry: entry,

@@ -3,10 +3,9 @@ use super::Held;
 use super::Holding;
 use super::Total;
 use reading::Viewed;
-use rules::NO_FAULT;
 use rules::PlaceNo;
-use rules::Refusal;
 use rules::Setting;
+use rules::refusals::NO_SUCH_PLACE;
 ghost use mathlib.Core.Path.{_≡_};
 ghost use Rattle.rules.specs.Table.{entry-count};
 ghost use Rattle.walks.specs.Entries.{HasEntries};
@@ -52,11 +51,7 @@ fn held_in(t: &[u8], p: &[u8], place: PlaceNo) -> Holding
 {
     let places = places::places_of(p);
     if places.count <= place.0 {
-        return Holding::Refused(Refusal {
-            number: 93,
-            fault0: NO_FAULT,
-            fault1: NO_FAULT,
-        });
+        return Holding::Refused(NO_SUCH_PLACE);
     }
     let value = places::place_value(p, places, place);
     let judgement = places::judge(t, slots::rows_of(t), value);

@@ -12,9 +12,6 @@ ghost use Rattle.job_bytes.specs.Form.{job-size, len-at, offset-at, firs
 ghost use Rattle.job_bytes.specs.Form.{sizes-encoded, addresses-encoded, kinds-encoded, numbers-encoded, block-over, encoded-over};
 ghost use Rattle.job_bytes.specs.Inner.Fitting.{Fitting};
 
-// The room for places' numbers in a job.
-const PLACE_ROOM: usize = 508;
-
 // A job with no step done into a buffer of that length, its arrays lent: what its steps do not use is not copied, and need
 // not be lent.
 pub fn encode<'a>(
@@ -86,10 +83,10 @@ fn store_kinds(out: &mut [u8], plan: Plan)
 fn meant_size(count: usize) -> usize
     ensures { λ r. ⌜ r ≡ meant-size count ⌝ }
 {
-    if count < PLACE_ROOM {
+    if count < rules::MOST_PLACES {
         return 2 * count;
     }
-    2 * PLACE_ROOM
+    2 * rules::MOST_PLACES
 }
 
 fn store_block(out: &mut [u8], at: usize, kind: Kind, block: &[u8])

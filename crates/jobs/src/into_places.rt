@@ -16,9 +16,6 @@ ghost use Rattle.rules.specs.Commands.{into-places};
 ghost use Rattle.jobs.specs.Jobs.{place-room, meant, first-step};
 ghost use Rattle.jobs.specs.Inner.Parts.{highest-address, programs-inside, places-inside, chosen, beyond};
 
-// The room for places' numbers in a job.
-pub const PLACE_ROOM: usize = 508;
-
 // The place whose number is at an index, two bytes, lowest first.
 fn place_at(places: &[u8], i: usize) -> PlaceNo
     requires { ⌜ 2 * i + 2 ≤ length (now places) ⌝ }
@@ -71,7 +68,7 @@ pub fn do_places<'a>(
         (now (image .entry)))
         ⌝ }
 {
-    let end = numbers::min(count, PLACE_ROOM);
+    let end = numbers::min(count, rules::MOST_PLACES);
     let mut rest = window;
     let mut i = 0;
     while i < end {
@@ -93,7 +90,7 @@ pub fn are_inside(
     requires { ⌜ length (now places) ≡ 2 * place-room ⌝ }
     ensures { λ r. ⌜ r ≡ places-inside len at offset from (meant count (now (places .entry))) ⌝ }
 {
-    let end = numbers::min(count, PLACE_ROOM);
+    let end = numbers::min(count, rules::MOST_PLACES);
     let mut skip = from;
     let mut i = 0;
     while i < end {
@@ -122,7 +119,7 @@ pub fn next_in_places<'a>(
         ⌝ }
 {
     let i = from / 8;
-    if numbers::min(count, PLACE_ROOM) <= i {
+    if numbers::min(count, rules::MOST_PLACES) <= i {
         return Next::Finished;
     }
     let place = place_at(places, i);

@@ -1,8 +1,9 @@
 // A job: the list of steps of a command, by value. Running it, what remains of it, which step comes next, steps that
 // were carried out elsewhere.
-use rules::NO_FAULT;
 use rules::Refusal;
 use rules::Step;
+use rules::refusals::NO_STEPS_LEFT;
+use rules::refusals::OUTSIDE_IMAGE;
 use windows::Window;
 ghost use mathlib.Core.Path.{_≡_};
 ghost use Prim.Native.Nat.{_-_};
@@ -16,6 +17,9 @@ mod parts;
 mod programs;
 mod rewriting;
 mod windows;
+
+// The room for places' numbers in a job: two bytes for each place that a pointer block may have.
+pub const PLACES_SIZE: usize = 2 * rules::MOST_PLACES;
 
 // What a part of a job does at its address.
 pub enum Kind {
@@ -42,9 +46,9 @@ pub struct Plan {
 pub struct Job {
     pub plan: Plan,
     pub done: usize,
-    pub first: [u8; 4096],
-    pub second: [u8; 4096],
-    pub places: [u8; 1016],
+    pub first: [u8; rules::BLOCK_SIZE],
+    pub second: [u8; rules::BLOCK_SIZE],
+    pub places: [u8; PLACES_SIZE],
     pub value: [u8; 8],
 }
 
@@ -125,18 +129,10 @@ pub fn run_in_place<'a>(
 {
     let count = parts::step_count(plan);
     if count <= done {
-        return Did::Refused(Refusal {
-            number: 11,
-            fault0: NO_FAULT,
-            fault1: NO_FAULT,
-        });
+        return Did::Refused(NO_STEPS_LEFT);
     }
     if (image.len() != plan.len) | !parts::steps_inside(plan, places, done, image.len()) {
-        return Did::Refused(Refusal {
-            number: 12,
-            fault0: NO_FAULT,
-            fault1: NO_FAULT,
-        });
+        return Did::Refused(OUTSIDE_IMAGE);
     }
     let window = Window {
         from: done,
@@ -207,11 +203,7 @@ pub fn counted_of(plan: Plan, done: usize, n: usize) -> Did
 {
     let left = remaining_of(plan, done);
     if left == 0 {
-        return Did::Refused(Refusal {
-            number: 11,
-            fault0: NO_FAULT,
-            fault1: NO_FAULT,
-        });
+        return Did::Refused(NO_STEPS_LEFT);
     }
     Did::Steps(numbers::min(n, left))
 }

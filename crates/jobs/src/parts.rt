@@ -26,7 +26,7 @@ fn part_length(kind: Kind, count: usize) -> usize
     match kind {
         Kind::Nothing => 0,
         Kind::Rewrite => REWRITE_STEPS,
-        Kind::Places => 8 * numbers::min(count, into_places::PLACE_ROOM),
+        Kind::Places => 8 * numbers::min(count, rules::MOST_PLACES),
     }
 }
 

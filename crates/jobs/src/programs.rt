@@ -38,7 +38,7 @@ pub fn do_range(image: &mut [u8], at: usize, given: &[u8], window: Window) -> Wi
 pub fn are_inside(len: usize, at: usize, size: usize, from: usize) -> bool
     ensures { λ r. ⌜ r ≡ programs-inside len at size from ⌝ }
 {
-    (size <= from) | numbers::ends_by(at, size, len)
+    (size <= from) | fields::ends_by(at as u64, size as u64, len as u64)
 }
 
 // The first of them.

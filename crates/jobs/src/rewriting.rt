@@ -58,7 +58,7 @@ pub fn is_inside(granule: usize, len: usize, at: usize, from: usize) -> bool
     let after = numbers::saturating_sub(from, 4);
     let skip = numbers::saturating_sub(after, 1);
     programs::are_inside(len, at, 4, from)
-        & (((1 <= after) | numbers::ends_by(at, granule, len))
+        & (((1 <= after) | fields::ends_by(at as u64, granule as u64, len as u64))
             & (programs::are_inside(len, at + 4, REST_SIZE, skip)
                 & programs::are_inside(len, at, 4, numbers::saturating_sub(skip, REST_SIZE))))
 }

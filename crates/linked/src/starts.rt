@@ -47,7 +47,7 @@ fn hand_over(image: &[u8], draft: Draft, room: &[u8], job: &mut [u8]) -> u8
         }
         Draft::IntoPlaces(plan, value) => {
             let eight = bytes::bytes_of(value);
-            encoding::encode(plan, b"", b"", &room[..1016], &eight, job);
+            encoding::encode(plan, b"", b"", &room[..jobs::PLACES_SIZE], &eight, job);
             0
         }
         Draft::Repaired(plan, from, after) => {

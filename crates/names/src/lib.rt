@@ -6,6 +6,19 @@ ghost use lib.ListN.{length, getD};
 ghost use Rattle.rules.specs.Lists.{same};
 ghost use Rattle.rules.specs.Bytes.{up-to-zero};
 
+// The six names that a table must have; no slot has one of them.
+pub const BOOT_INFO: [u8; 9] = *b"BOOT_INFO";
+
+pub const FACTORY_IMAGE: [u8; 13] = *b"FACTORY_IMAGE";
+
+pub const SPT0: [u8; 4] = *b"SPT0";
+
+pub const SPT1: [u8; 4] = *b"SPT1";
+
+pub const CPB0: [u8; 4] = *b"CPB0";
+
+pub const CPB1: [u8; 4] = *b"CPB1";
+
 // How many bytes are before the first zero.
 pub fn name_length(s: &[u8]) -> usize
     ensures { λ r. ⌜ (r ≡ length (up-to-zero (now (s .entry)))) × (r ≤ length (now (s .entry))) ⌝ }

@@ -25,12 +25,12 @@ const MAGIC: u64 = 0x57789609;
 
 const HEADER_SIZE: u64 = 0x18;
 
-const BLOCK_SIZE: u64 = fields::BLOCK_SIZE as u64;
+const BLOCK_SIZE: u64 = rules::BLOCK_SIZE as u64;
 
 // Where the places may begin, first and last: at a multiple of a pointer's size.
 const FIRST_OFFSET: u64 = 0x20;
 
-const LAST_OFFSET: u64 = 4088;
+const LAST_OFFSET: u64 = BLOCK_SIZE - POINTER_SIZE;
 
 const POINTER_SIZE: u64 = 8;
 

@@ -115,13 +115,13 @@ pub fn print_place(image: &[u8], block: usize, place: PlaceNo) {
 
 // Where it is, by the offset in the block's header; 0 where the block passes the image's end.
 fn place_at(image: &[u8], block: usize, place: PlaceNo) -> usize {
-    if image.len() < 4096 {
+    if image.len() < rules::BLOCK_SIZE {
         return 0;
     }
-    if image.len() - 4096 < block {
+    if image.len() - rules::BLOCK_SIZE < block {
         return 0;
     }
-    if 508 <= place.0 {
+    if rules::MOST_PLACES <= place.0 {
         return 0;
     }
     block + fields::le32(image, block + 0x10) as usize + 8 * place.0

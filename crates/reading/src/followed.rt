@@ -1,9 +1,9 @@
 // Where no table copy stands: refusals 50 and 51. Which pointer copy is read by one that stands: refusal 5.
 use super::Viewed;
-use rules::NO_FAULT;
 use rules::Refusal;
 use rules::Setting;
 use rules::View;
+use rules::refusals::NO_POINTERS;
 ghost use mathlib.Core.Path.{_≡_};
 ghost use Rattle.rules.specs.Copies.{no-table, view-through};
 ghost use Rattle.reading.specs.Answers.{viewed};
@@ -37,8 +37,8 @@ pub fn view_through(image: &[u8], setting: Setting, at: usize) -> Viewed
 {
     let t = fields::block_at(image, at);
     let n = entries::entry_count(t);
-    let cpb0 = entries::named_start(t, n, b"CPB0") as usize;
-    let cpb1 = entries::named_start(t, n, b"CPB1") as usize;
+    let cpb0 = entries::named_start(t, n, &names::CPB0) as usize;
+    let cpb1 = entries::named_start(t, n, &names::CPB1) as usize;
     if places::pointers_stand(image, cpb0) {
         return Viewed::At(View {
             spt0: setting.spt0,
@@ -59,9 +59,5 @@ pub fn view_through(image: &[u8], setting: Setting, at: usize) -> Viewed
             pointers: cpb1,
         });
     }
-    Viewed::Refused(Refusal {
-        number: 5,
-        fault0: NO_FAULT,
-        fault1: NO_FAULT,
-    })
+    Viewed::Refused(NO_POINTERS)
 }

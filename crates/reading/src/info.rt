@@ -1,9 +1,8 @@
 // One slot by a table, of which the first n entries count, and refusal 7.
 use super::Known;
-use rules::NO_FAULT;
-use rules::Refusal;
 use rules::SlotInfo;
 use rules::SlotNo;
+use rules::refusals::NO_SUCH_SLOT;
 ghost use mathlib.Core.Path.{_≡_};
 ghost use Rattle.rules.specs.Answers.{given, unless};
 ghost use Rattle.rules.specs.Table.{rows};
@@ -18,11 +17,7 @@ pub fn info_in(t: &[u8], n: usize, slot: SlotNo) -> Known
         ≡ unless 7 (slot-there (rows n (now (t .entry))) (slot .0)) (given (info (rows n (now (t .entry))) (slot .0))) ⌝ }
 {
     if !slot_there(t, n, slot) {
-        return Known::Refused(Refusal {
-            number: 7,
-            fault0: NO_FAULT,
-            fault1: NO_FAULT,
-        });
+        return Known::Refused(NO_SUCH_SLOT);
     }
     let e = slots::slot_row(t, n, slot);
     Known::Is(SlotInfo {

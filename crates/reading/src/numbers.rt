@@ -6,7 +6,7 @@ ghost use Rattle.rules.specs.Numbers.{length-right, granule-right, address-righ
 ghost use Rattle.reading.specs.Inner.Due.{due};
 
 // The unit and the least length of an image, and the greatest.
-const BLOCK_SIZE: usize = fields::BLOCK_SIZE;
+const BLOCK_SIZE: usize = rules::BLOCK_SIZE;
 
 const LENGTH_MAX: usize = 268435456;
 
@@ -43,7 +43,7 @@ fn address_right(granule: usize, len: usize, at: usize) -> bool
     requires { ⌜ 0 < granule ⌝ }
     ensures { λ r. ⌜ r ≡ address-right granule len at ⌝ }
 {
-    (at % granule == 0) & table::ends_by(at as u64, granule as u64, len as u64)
+    (at % granule == 0) & fields::ends_by(at as u64, granule as u64, len as u64)
 }
 
 fn addresses_right(setting: Setting, len: usize) -> bool

@@ -1,8 +1,7 @@
 // The order listed into a lent row, and refusal 13.
 use super::Listed;
 use places::Places;
-use rules::NO_FAULT;
-use rules::Refusal;
+use rules::refusals::ROW_TOO_SHORT;
 use slots::Rows;
 ghost use mathlib.Core.Path.{_≡_};
 ghost use lib.Dec.{leb};
@@ -27,11 +26,7 @@ pub fn list_order(t: &[u8], p: &[u8], row: &mut [u32]) -> Listed
     let rows = slots::rows_of(t);
     let places = places::places_of(p);
     if !has_room(t, rows, p, places, row.len()) {
-        return Listed::Refused(Refusal {
-            number: 13,
-            fault0: NO_FAULT,
-            fault1: NO_FAULT,
-        });
+        return Listed::Refused(ROW_TOO_SHORT);
     }
     let len = places::order::write_order(t, rows, p, places, row);
     Listed::Count(len)

@@ -24,8 +24,8 @@ pub fn ask(desk: Desk, room: &[u8], asked: Question) -> bool {
 }
 
 // The longest row.
-fn row_room() -> [u32; 508] {
-    [0; 508]
+fn row_room() -> [u32; rules::MOST_PLACES] {
+    [0; rules::MOST_PLACES]
 }
 
 fn tell_order(setting: Setting, image: &[u8], places: usize) -> bool {

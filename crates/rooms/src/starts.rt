@@ -17,6 +17,16 @@ ghost use Rattle.walks.specs.Entries.{entry-at, most-entries, HasEntries};
 ghost use Rattle.places.specs.Inner.PlacesOf.{HasPlaces};
 ghost use Rattle.rooms.specs.Inner.Candidates.{raised-by, raised, next-candidate, Placed};
 
+// What addresses and lengths of slots are multiples of.
+const UNIT: u64 = rules::BLOCK_SIZE as u64;
+
+// The length of a new slot is a multiple of 4,096 and not 0.
+pub fn size_right(size: u64) -> bool
+    ensures { λ r. ⌜ r ≡ size-right size ⌝ }
+{
+    (size != 0) & (size % UNIT == 0)
+}
+
 // The end of the entry where the range overlaps it; else the range's own start.
 fn raised_by(t: &[u8], e: EntryNo, start: u64, size: u64) -> u64
     requires { ⌜
@@ -78,7 +88,7 @@ fn next_candidate(t: &[u8], n: usize, p: &[u8], places: Places, a: u64, size: u6
         return b;
     }
     if held(p, places, a) {
-        return a + 4096;
+        return a + UNIT;
     }
     a
 }

@@ -11,4 +11,5 @@ pub mod TableJobs
 pub mod RenameJob
 pub mod SlotJobs
 pub mod Faults
+pub mod EntryTold
 pub mod WhichEntry

@@ -1,4 +1,13 @@
-// The types that the definitions and the code share.
+// The types and numbers that the definitions and the code share.
+pub mod refusals; // the refusals by name
+
+// The length of a table and of a pointer block, and the unit of every partition.
+pub const BLOCK_SIZE: usize = 4096;
+
+// The most entries of a table, and the most places of a pointer block.
+pub const MOST_ENTRIES: usize = 127;
+
+pub const MOST_PLACES: usize = 508;
 
 // The number of an entry: its row in the sub-partition table, from 0.
 pub struct EntryNo(pub usize);

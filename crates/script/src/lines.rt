@@ -11,10 +11,8 @@ ghost use mathlib.Core.Bool.{cond};
 ghost use Prim.Native.Nat.{_%_};
 ghost use Rattle.script.specs.Lines.{takes, takes-slot, takes-ranges, by-forms, change-forms, question-forms, command-forms, steps-forms};
 
-// The row of a bare `order`, and the longest row.
+// The row of a bare `order`; the longest row has room for every place.
 const ROW_DEFAULT: usize = 127;
-
-const ROW_MAX: usize = 508;
 
 const BYTE_MAX: usize = 255;
 
@@ -96,7 +94,7 @@ pub fn change_line(verb: &[u8], row: Row, hexed: Row, otherwise: Line) -> Line
 pub fn question_line(verb: &[u8], row: Row, otherwise: Line) -> Line
     ensures { λ r. ⌜ r ≡ by-forms (question-forms (now (verb .entry)) row) otherwise ⌝ }
 {
-    let fits = takes(verb, b"order", row, 1) & (row.first <= ROW_MAX);
+    let fits = takes(verb, b"order", row, 1) & (row.first <= rules::MOST_PLACES);
     let slot = Question::Slot(slot_of(row));
     let peek = Question::Peek(row.first, row.second);
     let dumps = Question::Dumps(row.first, row.second, row.third, row.fourth);

@@ -34,12 +34,12 @@ pub fn is_fixed_name(name: &[u8]) -> bool
     if !begins_fixed(name) {
         return false;
     }
-    names::same_name(name, b"BOOT_INFO")
-        | names::same_name(name, b"FACTORY_IMAGE")
-        | names::same_name(name, b"SPT0")
-        | names::same_name(name, b"SPT1")
-        | names::same_name(name, b"CPB0")
-        | names::same_name(name, b"CPB1")
+    names::same_name(name, &names::BOOT_INFO)
+        | names::same_name(name, &names::FACTORY_IMAGE)
+        | names::same_name(name, &names::SPT0)
+        | names::same_name(name, &names::SPT1)
+        | names::same_name(name, &names::CPB0)
+        | names::same_name(name, &names::CPB1)
 }
 
 // The first byte is that of one of the six.

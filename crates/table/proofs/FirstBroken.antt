@@ -1,9 +1,9 @@
 -- The first entry that does not keep a rule by itself, or with an earlier one: one turn and the end of the walks that look
 -- for it; its number is that of the entries exactly if all keep the rule. Assumes nothing.
-use mathlib.Core.Path.{_≡_, refl, sym, ap, _∙_}
+use mathlib.Core.Path.{_≡_, refl, sym, _∙_}
 use mathlib.Core.Bool.{Bool, true, false, _&&_}
 use mathlib.Core.List.{List, [], _∷_}
-use Prim.Native.Nat.{ℕ, zero, suc, _+_, _-_, _<_, compare·suc-suc, compare·zero-suc}
+use Prim.Native.Nat.{ℕ, zero, suc, _+_, _-_, _<_}
 use native.Mathlib.Numerals.{add-one}
 use native.Mathlib.Omega.{arith}
 use lib.Dec.{eqb}
@@ -12,6 +12,7 @@ use borrow.Author.Tests.{eq-eqb, ne-eqb, eqb-true, eqb-false}
 use Rattle.rules.specs.Lists.{all, pairwise, first-failing, first-clash}
 use Rattle.rules.specs.Table.{Entry, rows}
 use Rattle.rules.proofs.Lists.Tests.{by-cases}
+use Rattle.rules.proofs.Lists.FirstBroken.{none-fails, none-clashes}
 use Rattle.rules.proofs.Table.Standing.{length-entries-from}
 use Rattle.walks.specs.Entries.{entry-at}
 use Rattle.table.specs.Inner.Rules.{entries-before}
@@ -68,48 +69,7 @@ one-before-fails f t k (suc n) l h =
     and-false true = refl
     and-false false = refl
 
--- ---- the number of elements where all keep the rule
-
-and-inner : (a b c d : Bool) → a && b && (c && d) ≡ a && c && (b && d)
-and-inner true true c d = refl
-and-inner true false true d = refl
-and-inner true false false d = refl
-and-inner false b c d = refl
-
-and-turn : (a b c : Bool) → a && b && c ≡ b && (a && c)
-and-turn true b c = refl
-and-turn false true c = refl
-and-turn false false c = refl
-
-module _ {A : Type 0} where
-  none-fails : (f : A → Bool) (xs : List A) → eqb (first-failing f xs) (length xs) ≡ all f xs
-  unfolding all first-failing
-  none-fails f [] = refl
-  none-fails f (x ∷ xs) =
-      by-cases (f x) (λ t. rw (t, compare·suc-suc) (none-fails f xs)) (λ t. rw (t, compare·zero-suc))
-
-  all-of-both : (f g : A → Bool) (xs : List A) → all (λ x. f x && g x) xs ≡ all f xs && all g xs
-  unfolding all
-  all-of-both f g [] = refl
-  all-of-both f g (x ∷ xs) = rw (all-of-both f g xs) (and-inner (f x) (g x) (all f xs) (all g xs))
-
-  none-clashes : (f : A → A → Bool) (earlier xs : List A)
-      → eqb (first-clash f earlier xs) (length xs) ≡ all (λ x. all (λ y. f y x) earlier) xs && pairwise f xs
-  unfolding all pairwise first-clash
-  none-clashes f earlier [] = refl
-  none-clashes f earlier (x ∷ xs) =
-      by-cases (all (λ y. f y x) earlier)
-      (λ t. rw (t, compare·suc-suc)
-      (none-clashes f (x ∷ earlier) xs
-      ∙ ap (λ b. b && pairwise f xs) (all-of-both (f x) (λ z. all (λ y. f y z) earlier) xs)
-      ∙ and-turn (all (f x) xs) (all (λ z. all (λ y. f y z) earlier) xs) (pairwise f xs)))
-      (λ t. rw (t, compare·zero-suc))
-
-  -- with no earlier element all pass
-  none-earlier : (f : A → A → Bool) (xs : List A) → all (λ x. all (λ y. f y x) []) xs ≡ true
-  unfolding all
-  none-earlier f [] = refl
-  none-earlier f (x ∷ xs) = none-earlier f xs
+-- ---- the number of entries where all keep the rule
 
 module _ (n : ℕ) (t : List ℕ) {e : ℕ} where
   pub all-by-number : (f : Entry → Bool) → e ≡ first-failing f (rows n t) → eqb e n ≡ all f (rows n t)
@@ -118,9 +78,7 @@ module _ (n : ℕ) (t : List ℕ) {e : ℕ} where
   pub pairs-by-number : (f : Entry → Entry → Bool)
       → e ≡ first-clash f [] (rows n t)
       → eqb e n ≡ pairwise f (rows n t)
-  pairs-by-number f h =
-      let known = rw length-entries-from at (none-clashes f [] (rows n t)) in
-      rw h (known ∙ rw (none-earlier f (rows n t)))
+  pairs-by-number f h = rw (h, ← none-clashes f (rows n t), length-entries-from)
 
 -- what the test of such a number tells of the rule
 module _ {e n : ℕ} {rule : Bool} (known : eqb e n ≡ rule) where

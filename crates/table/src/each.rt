@@ -23,7 +23,7 @@ fn entry_keeps(rule: Rule, table: &[u8], e: EntryNo) -> bool
         Rule::NamePadded => naming::name_is_padded(table, e),
         Rule::RangeAligned => ranges::range_is_aligned(table, e),
         Rule::RangeInside(len) => ranges::range_is_inside(table, e, len),
-        Rule::BootInfoRight => six::starts_if_named(table, e, b"BOOT_INFO", 0),
+        Rule::BootInfoRight => six::starts_if_named(table, e, &names::BOOT_INFO, 0),
         Rule::TableAsTold(spt0, spt1) => six::table_is_as_told(table, e, spt0, spt1),
         Rule::BlockOnGranules(granule) => six::block_is_on_granules(table, e, granule),
     }

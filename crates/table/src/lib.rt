@@ -5,7 +5,6 @@ use rules::Fault;
 use rules::Setting;
 ghost use mathlib.Core.Path.{_≡_};
 ghost use Prim.Native.Nat.{_+_, _≤_, _<_};
-ghost use lib.Dec.{leb};
 ghost use lib.ListN.{length};
 ghost use Rattle.rules.specs.Bytes.{block, block-size};
 ghost use Rattle.rules.specs.Table.{rows, magic-right, header-right, count-right, entries-stand, table-stands, fault};
@@ -126,15 +125,5 @@ fn count_is_right(table: &[u8]) -> bool
     ensures { λ r. ⌜ r ≡ count-right (now (table .entry)) ⌝ }
 {
     let n = entries::entry_count(table);
-    (1 <= n) & (n <= entries::MOST_ENTRIES)
-}
-
-// A range ends at a bound or before it: exact, where start + size would wrap.
-pub fn ends_by(start: u64, size: u64, bound: u64) -> bool
-    ensures { λ r. ⌜ r ≡ leb (start + size) bound ⌝ }
-{
-    if bound < start {
-        return false;
-    }
-    size <= bound - start
+    (1 <= n) & (n <= rules::MOST_ENTRIES)
 }

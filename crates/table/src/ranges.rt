@@ -1,7 +1,6 @@
 // Rules 5 to 7: the range of an entry, from its start over its length.
 use super::PairRule;
 use super::each;
-use super::ends_by;
 use rules::EntryNo;
 ghost use mathlib.Core.Path.{_≡_};
 ghost use mathlib.Core.Bool.{true};
@@ -15,7 +14,7 @@ ghost use Rattle.walks.specs.Entries.{entry-at, most-entries, HasEntries};
 ghost use Rattle.table.specs.Inner.Ascending.{ends-before, ascend};
 
 // The unit of every start and length.
-const UNIT: u64 = fields::BLOCK_SIZE as u64;
+const UNIT: u64 = rules::BLOCK_SIZE as u64;
 
 // Rule 5: start and length are multiples of 4,096 and length is not 0.
 pub fn range_is_aligned(table: &[u8], e: EntryNo) -> bool
@@ -32,7 +31,7 @@ pub fn range_is_inside(table: &[u8], e: EntryNo, len: u64) -> bool
     requires { ⌜ (length (now table) ≡ block-size) × (e .0 < most-entries) ⌝ }
     ensures { λ r. ⌜ r ≡ range-inside len (entry-at (now (table .entry)) (e .0)) ⌝ }
 {
-    ends_by(
+    fields::ends_by(
         entries::entry_start(table, e),
         entries::entry_size(table, e),
         len,
@@ -44,7 +43,7 @@ fn ends_before(table: &[u8], d: EntryNo, e: EntryNo) -> bool
     requires { ⌜ (length (now table) ≡ block-size) × ((d .0 < most-entries) × (e .0 < most-entries)) ⌝ }
     ensures { λ r. ⌜ r ≡ ends-before (entry-at (now (table .entry)) (d .0)) (entry-at (now (table .entry)) (e .0)) ⌝ }
 {
-    ends_by(
+    fields::ends_by(
         entries::entry_start(table, d),
         entries::entry_size(table, d),
         entries::entry_start(table, e),

@@ -31,12 +31,12 @@ pub fn find_six(table: &[u8], n: usize) -> SixEntries
     requires { ⌜ HasEntries (now table) n ⌝ }
     ensures { λ r. ⌜ Found (rows n (now (table .entry))) r ⌝ }
 {
-    let boot = entries::find_named(table, n, b"BOOT_INFO");
-    let factory = entries::find_named(table, n, b"FACTORY_IMAGE");
-    let table0 = entries::find_named(table, n, b"SPT0");
-    let table1 = entries::find_named(table, n, b"SPT1");
-    let pointers0 = entries::find_named(table, n, b"CPB0");
-    let pointers1 = entries::find_named(table, n, b"CPB1");
+    let boot = entries::find_named(table, n, &names::BOOT_INFO);
+    let factory = entries::find_named(table, n, &names::FACTORY_IMAGE);
+    let table0 = entries::find_named(table, n, &names::SPT0);
+    let table1 = entries::find_named(table, n, &names::SPT1);
+    let pointers0 = entries::find_named(table, n, &names::CPB0);
+    let pointers1 = entries::find_named(table, n, &names::CPB1);
     SixEntries {
         boot,
         factory,
@@ -114,7 +114,7 @@ pub fn table_is_as_told(table: &[u8], e: EntryNo, spt0: u64, spt1: u64) -> bool
     requires { ⌜ (length (now table) ≡ block-size) × (e .0 < most-entries) ⌝ }
     ensures { λ r. ⌜ r ≡ table-as-told (setting 0 spt0 spt1) (entry-at (now (table .entry)) (e .0)) ⌝ }
 {
-    starts_if_named(table, e, b"SPT0", spt0) & starts_if_named(table, e, b"SPT1", spt1)
+    starts_if_named(table, e, &names::SPT0, spt0) & starts_if_named(table, e, &names::SPT1, spt1)
 }
 
 // What rule 11 asks of one entry.
@@ -123,8 +123,8 @@ pub fn block_is_on_granules(table: &[u8], e: EntryNo, granule: u64) -> bool
     ensures { λ r. ⌜ r ≡ block-on-granules (setting granule 0 0) (entry-at (now (table .entry)) (e .0)) ⌝ }
 {
     let fits = is_on_granules(table, e, granule);
-    (!entries::has_name(table, e, b"SPT0") | fits)
-        & (!entries::has_name(table, e, b"SPT1") | fits)
-        & (!entries::has_name(table, e, b"CPB0") | fits)
-        & (!entries::has_name(table, e, b"CPB1") | fits)
+    (!entries::has_name(table, e, &names::SPT0) | fits)
+        & (!entries::has_name(table, e, &names::SPT1) | fits)
+        & (!entries::has_name(table, e, &names::CPB0) | fits)
+        & (!entries::has_name(table, e, &names::CPB1) | fits)
 }

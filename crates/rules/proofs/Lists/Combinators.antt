@@ -1,4 +1,4 @@
--- SlotInfo about tests over lists: all, any, pairwise, keep, first, and one element changed. Assumes nothing.
+-- Facts about tests over lists: all, any, pairwise, keep, first, and one element changed. Assumes nothing.
 use mathlib.Core.Path.{_≡_, refl}
 use mathlib.Core.Bool.{Bool, true, false, not, _&&_, _||_}
 use mathlib.Core.List.{List, [], _∷_, _++_}

@@ -1,4 +1,4 @@
--- SlotInfo about tests and answers: what a test that passed or failed says of its parts. Assumes nothing.
+-- Facts about tests and answers: what a test that passed or failed says of its parts. Assumes nothing.
 use mathlib.Core.Path.{_≡_, refl, ap₂, subst}
 use mathlib.Core.Bool.{Bool, true, false, _&&_, _||_}
 use mathlib.Core.Logic.{_⊎_, inl, inr}

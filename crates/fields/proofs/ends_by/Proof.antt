@@ -1,12 +1,12 @@
--- `table::ends_by` meets its contract: a difference that does not wrap is compared in place of a sum. Assumes
+-- `fields::ends_by` meets its contract: a difference that does not wrap is compared in place of a sum. Assumes
 -- nothing.
 use mathlib.Core.Path.{sym}
 use Prim.Native.Nat.{_+_, _-_}
 use native.Mathlib.Omega.{arith}
 use borrow.Author.Tests.{lt-leb}
 use Rattle.walks.proofs.Joined.{leb-cong}
-use Rattle.table.proofs.ends_by.Statement.{statement}
-use Rattle.table.proofs.ends_by.Tie as tie
+use Rattle.fields.proofs.ends_by.Statement.{statement}
+use Rattle.fields.proofs.ends_by.Tie as tie
 
 returns : tie.Need-returns
 returns c =
