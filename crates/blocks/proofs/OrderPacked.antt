@@ -13,7 +13,7 @@ use Rattle.rules.specs.Pointers.{order}
 use Rattle.rules.specs.Commands.{pointers-of}
 use Rattle.rules.proofs.Order.OnceEach.{Once, once-order, once-first, once-length, order-length}
 use Rattle.slots.proofs.RowsOf.{few-slots-counted}
-use Rattle.places.proofs.BootOrder.{order-fits}
+use Rattle.boot_order.proofs.BootOrder.{order-fits}
 use Rattle.blocks.specs.Inner.Walked.{SlotNumbers}
 
 -- ---- one pointer more

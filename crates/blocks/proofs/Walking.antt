@@ -24,7 +24,7 @@ use Rattle.places.specs.Inner.Added.{place-value}
 use Rattle.places.proofs.Values.{place-turn}
 pub use Rattle.places.proofs.Values.{length-places}
 use Rattle.places.proofs.Free.{FreeFrom}
-use Rattle.places.proofs.BootOrder.{member-last}
+use Rattle.boot_order.proofs.BootOrder.{member-last}
 use Rattle.walks.proofs.Joined.{or-with-false}
 use Rattle.blocks.specs.Inner.Walked.{is-live}
 use Rattle.blocks.proofs.Noting.{Below}

@@ -35,7 +35,7 @@ pub fn order_without(
         ⌝ }
 {
     let mut row = [0; 127];
-    let len = places::order::write_order(t, rows, p, places, &mut row);
+    let len = boot_order::write_order(t, rows, p, places, &mut row);
     pack_without(t, rows, p, places, &row[..len], slot, room)
 }
 

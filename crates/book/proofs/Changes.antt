@@ -20,7 +20,7 @@ use Rattle.rules.specs.declared.Step.{Step}
 use Rattle.rules.specs.declared.View.{View}
 use Rattle.rules.proofs.Lists.Tests.{by-cases, unless-given, bind-given, given-inj}
 use Rattle.walks.specs.Entries.{most-entries}
-use Rattle.reading.proofs.Opening.{located}
+use Rattle.views.proofs.Opening.{located}
 use Rattle.book.specs.Kept.{new-name, slots-of, reading-of, has-slot, has-row, takes, taken, deleted}
 use Rattle.book.specs.declared.order.Order.{Order}
 use Rattle.book.specs.declared.Book.{Book}

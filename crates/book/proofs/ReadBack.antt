@@ -26,9 +26,9 @@ use Rattle.walks.specs.Entries.{most-entries}
 use Rattle.reading.specs.Answers.{listed, count-of}
 use Rattle.reading.specs.declared.Listed.{Listed}
 use Rattle.reading.specs.declared.Listed.the-variants.{Count, Refused as NotListed}
-use Rattle.reading.proofs.Opening.{located}
-use Rattle.commands.specs.Inner.Asked.{copies-equal}
-use Rattle.commands.proofs.EqualCopies.{pairs-agree-if-equal}
+use Rattle.views.proofs.Opening.{located}
+use Rattle.drafts.specs.Inner.Asked.{copies-equal}
+use Rattle.drafts.proofs.EqualCopies.{pairs-agree-if-equal}
 use Rattle.book.specs.Kept.{room}
 
 -- ---- an order has no more slots than a table

@@ -4,10 +4,10 @@ use commands::Command;
 use order::Change;
 use order::Order;
 use reading::Listed;
-use reading::Viewed;
 use rules::Refusal;
 use rules::Setting;
 use rules::SlotNo;
+use views::Viewed;
 ghost use mathlib.Core.Path.{_≡_};
 ghost use Rattle.rules.specs.Lists.{same};
 ghost use Rattle.rules.specs.Copies.{pairs-agree};
@@ -139,7 +139,7 @@ fn with_order(table: [u8; rules::BLOCK_SIZE], order: Order) -> Book
 pub fn pairs_agree(image: &[u8], setting: Setting) -> bool
     ensures { λ r. ⌜ r ≡ pairs-agree setting (now (image .entry)) ⌝ }
 {
-    let seen = reading::view(image, setting);
+    let seen = views::view(image, setting);
     match seen {
         Viewed::Refused(_) => false,
         Viewed::At(v) => {

@@ -1,8 +1,8 @@
 // Tables by value.
-use reading::Viewed;
 use rules::EntryNo;
 use rules::Setting;
 use rules::SlotNo;
+use views::Viewed;
 ghost use mathlib.Core.Path.{_≡_};
 ghost use mathlib.Core.Bool.{true, cond};
 ghost use Prim.Native.Nat.{_<_};
@@ -114,7 +114,7 @@ fn start_for(image: &[u8], setting: Setting, size: u64) -> u64
     requires { ⌜ (size-right size ≡ true) × (size < 0x100000000) ⌝ }
     ensures { λ r. ⌜ r ≡ start-for setting (now (image .entry)) size ⌝ }
 {
-    let seen = reading::view(image, setting);
+    let seen = views::view(image, setting);
     match seen {
         Viewed::Refused(_) => 0,
         Viewed::At(v) => {

@@ -7,8 +7,8 @@ ghost use mathlib.Core.Path.{_≡_};
 ghost use lib.ListN.{length};
 ghost use Rattle.commands.specs.Begins.{command-of, start-result};
 ghost use Rattle.job_bytes.specs.Form.{job-size};
-ghost use Rattle.linked.specs.Begun.{handed, started-into};
-ghost use Rattle.linked.specs.Ran.{lent};
+ghost use Rattle.handing.specs.Begun.{handed, started-into};
+ghost use Rattle.codes.specs.Ran.{lent};
 ghost use Rattle.carried_for_c.specs.Carrying.{ran-if-started, carried-twice-for-c, order-told};
 
 // Two runs of a job that was started; none where the start was refused.

@@ -1,9 +1,2 @@
-pub mod Locating
-pub mod EqualCopies
-pub mod Drafting
-pub mod Asking
-pub mod NewAsked
-pub mod CommandJobs
 pub mod StartLists
-pub mod Examples
 pub mod NameLent

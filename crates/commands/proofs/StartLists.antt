@@ -25,11 +25,11 @@ use Rattle.rules.proofs.Pointers.PointerHeader.{places-fit}
 use Rattle.blocks.specs.Made.{Lists}
 use Rattle.blocks.proofs.JobSteps.{rewrites-lists, no-steps-lists, pair-lists, places-lists}
 use Rattle.blocks.proofs.Walking.{giving-few, giving-below, length-places}
-use Rattle.commands.specs.JobFor.{reorder-job, in-places-job, enable-job, disable-job, rename-job, create-job, delete-job, repair-job, job-for}
-use Rattle.commands.specs.Begins.{returned, job-by, start-result, begins}
+use Rattle.drafts.specs.JobFor.{reorder-job, in-places-job, enable-job, disable-job, rename-job, create-job, delete-job, repair-job, job-for, job-by}
+use Rattle.commands.specs.Begins.{returned, start-result, begins}
 use Rattle.commands.specs.declared.StartResult.{StartResult}
-use Rattle.commands.proofs.EqualCopies.{repair-by-copies}
-use Rattle.reading.proofs.Opening.{located}
+use Rattle.drafts.proofs.EqualCopies.{repair-by-copies}
+use Rattle.views.proofs.Opening.{located}
 
 -- ---- each command
 

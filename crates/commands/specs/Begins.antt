@@ -12,11 +12,11 @@ use Rattle.rules.specs.declared.Step.{Step}
 use Rattle.rules.specs.declared.View.{View}
 use Rattle.jobs.specs.declared.Job.{Job}
 use Rattle.blocks.specs.Made.{Lists, no-job}
-use Rattle.commands.specs.JobFor.{job-for}
+use Rattle.drafts.specs.JobFor.{job-by}
 use Rattle.commands.specs.declared.StartResult.{StartResult}
 use Rattle.commands.specs.declared.Command.{Command as Asked}
 use Rattle.commands.specs.declared.Command.the-variants.{Enable, Disable, Rename, Create, Delete, Repair}
-use Rattle.commands.specs.declared.Outcome.the-variants.{Started, Refused}
+use Rattle.drafts.specs.declared.Outcome.the-variants.{Started, Refused}
 
 -- the documents' command, by the code's and the name lent beside it
 unfoldable pub command-of : Asked → List ℕ → Command
@@ -37,10 +37,6 @@ started j = record { job = j; answer = Started }
 unfoldable pub returned : Answer Job → StartResult
 returned (refused why) = refusal why
 returned (given j) = started j
-
--- once the view is known: the refusals of `job`, or the job
-unfoldable pub job-by : Setting → List ℕ → View → Command → Answer Job
-job-by s img v c = job s img v c >>= λ _. given (job-for (s .granule) img v c)
 
 -- every refusal in its order, or the job
 abbrev pub start-answer : Setting → List ℕ → Command → Answer Job

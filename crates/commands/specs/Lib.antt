@@ -1,3 +1,1 @@
-pub mod JobFor
 pub mod Begins
-pub mod Inner

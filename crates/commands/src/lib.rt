@@ -1,32 +1,23 @@
 // The six commands, started on a lent image that is only read: an answer beside a job.
-mod drafts; // drafts, and what a start returns by one
-mod refusals; // refusals 6 and 7
-mod givings; // the places that give a slot
-mod pairs; // two copies compared, and the copy not read
-mod enabling; // enable
-mod disabling; // disable, and refusal 8
-mod renaming; // rename, and refusals 9 and 10
-mod creating; // create, and refusals 40 to 42
-mod deleting; // delete, and refusal 43
+mod beginning; // what a start returns by a draft
+mod pairs; // repair: two copies compared, and the copy not read
 
-use blocks::PlaceList;
+use drafts::Draft;
+use drafts::Outcome;
 use jobs::Job;
-use jobs::Plan;
-use places::Places;
-use reading::Viewed;
-use rules::Refusal;
 use rules::Setting;
 use rules::SlotNo;
 use rules::View;
-use slots::Rows;
+use views::Viewed;
 ghost use mathlib.Core.Path.{_≡_};
 ghost use lib.ListN.{length};
 ghost use Rattle.rules.specs.Bytes.{block-size};
 ghost use Rattle.rules.specs.Answers.{given};
 ghost use Rattle.rules.specs.Copies.{view};
 ghost use Rattle.rules.specs.Commands.{enable, disable, rename, create, delete, repair};
-ghost use Rattle.commands.specs.Begins.{command-of, job-by, start-answer, start-result};
-ghost use Rattle.commands.specs.Inner.Drafted.{Drafts};
+ghost use Rattle.commands.specs.Begins.{command-of, start-answer, start-result};
+ghost use Rattle.drafts.specs.JobFor.{job-by};
+ghost use Rattle.drafts.specs.Inner.Drafted.{Drafts};
 
 // What is asked of a flash. The new name of a slot is lent beside it; a new slot is created with a length.
 pub enum Command {
@@ -36,30 +27,6 @@ pub enum Command {
     Create(u32),
     Delete(SlotNo),
     Repair,
-}
-
-// What a start answers: started, or refused.
-pub enum Outcome {
-    Started,
-    Refused(Refusal),
-}
-
-// A command's refusal, or its job in short. The block that both copies of a pair get, or the numbers of the places, stand
-// in the room lent beside it; a repair's two blocks are in the image, at these addresses.
-pub enum Draft {
-    Refused(Refusal),
-    NoSteps(Plan),
-    Rewritten(Plan),
-    IntoPlaces(Plan, u64),
-    Repaired(Plan, usize, usize),
-}
-
-// The places that give a slot, with its start and what was read to find them.
-pub struct SlotPlaces {
-    pub rows: Rows,
-    pub places: Places,
-    pub start: u64,
-    pub found: PlaceList,
 }
 
 // A start: the job, which is the one of no steps where it was refused, and the answer.
@@ -76,7 +43,7 @@ pub fn start(image: &[u8], setting: Setting, command: Command, name: &[u8]) -> S
 {
     let mut room = blocks::bytes::erased_block();
     let draft = draft_command(image, setting, command, name, &mut room);
-    drafts::begin(image, draft, &room)
+    beginning::begin(image, draft, &room)
 }
 
 // The same as a draft, for whoever puts the job elsewhere and needs no copy of it.
@@ -93,7 +60,7 @@ pub fn draft_command(
         (start-answer setting (now (image .entry)) (command-of command (now (name .entry))))
         ⌝ }
 {
-    let seen = reading::view(image, setting);
+    let seen = views::view(image, setting);
     match seen {
         Viewed::Refused(why) => Draft::Refused(why),
         Viewed::At(v) => draft_by(image, setting, v, command, name, room),
@@ -116,11 +83,37 @@ fn draft_by(
         ⌝ }
 {
     match command {
-        Command::Enable(slot) => enabling::enable_by(image, setting, v, slot, room),
-        Command::Disable(slot) => disabling::disable_by(image, setting, v, slot, room),
-        Command::Rename(slot) => renaming::rename_by(image, setting, v, slot, name, room),
-        Command::Create(size) => creating::create_by(image, setting, v, name, size, room),
-        Command::Delete(slot) => deleting::delete_by(image, setting, v, slot, room),
+        Command::Enable(slot) => pointer_commands::enabling::enable_by(
+            image,
+            setting,
+            v,
+            slot,
+            room,
+        ),
+        Command::Disable(slot) => pointer_commands::disabling::disable_by(
+            image,
+            setting,
+            v,
+            slot,
+            room,
+        ),
+        Command::Rename(slot) => table_commands::renaming::rename_by(
+            image,
+            setting,
+            v,
+            slot,
+            name,
+            room,
+        ),
+        Command::Create(size) => table_commands::creating::create_by(
+            image,
+            setting,
+            v,
+            name,
+            size,
+            room,
+        ),
+        Command::Delete(slot) => table_commands::deleting::delete_by(image, setting, v, slot, room),
         Command::Repair => pairs::repair_by(image, setting, v, room),
     }
 }

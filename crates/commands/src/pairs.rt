@@ -1,6 +1,6 @@
 // The two copies of a pair: whether they are equal, and repair from the copy read.
-use super::Draft;
 use blocks::made;
+use drafts::Draft;
 use rules::Setting;
 use rules::View;
 ghost use mathlib.Core.Path.{_≡_};
@@ -11,8 +11,8 @@ ghost use Rattle.rules.specs.Bytes.{block-size};
 ghost use Rattle.rules.specs.Answers.{given};
 ghost use Rattle.rules.specs.Copies.{view};
 ghost use Rattle.rules.specs.Commands.{repair};
-ghost use Rattle.commands.specs.Begins.{job-by};
-ghost use Rattle.commands.specs.Inner.Drafted.{Drafts};
+ghost use Rattle.drafts.specs.JobFor.{job-by};
+ghost use Rattle.drafts.specs.Inner.Drafted.{Drafts};
 
 // The address of the copy that is not read.
 fn other_copy(read: usize, a0: usize, a1: usize) -> usize

@@ -1,10 +1,10 @@
 // Little-endian fields of lent bytes, and the part of an image that is a block.
 ghost use mathlib.Core.Path.{_≡_};
 ghost use Prim.Native.Nat.{_+_, _≤_, _<_};
-ghost use lib.Dec.{leb};
 ghost use lib.ListN.{length};
 ghost use Rattle.rules.specs.Bytes.{field, block, block-size};
 
+pub mod bounds; // differences, bounds and parts
 pub mod stores; // numbers and bytes into lent bytes
 
 // The field of 4 bytes at an offset.
@@ -29,16 +29,6 @@ pub fn block_at(image: &[u8], at: usize) -> &[u8]
     ensures { λ r. ⌜ (now r ≡ block (now (image .entry)) at) × (length (now r) ≡ block-size) ⌝ }
 {
     &image[at..at + rules::BLOCK_SIZE]
-}
-
-// A range ends at a bound or before it: exact, where start + size would wrap.
-pub fn ends_by(start: u64, size: u64, bound: u64) -> bool
-    ensures { λ r. ⌜ r ≡ leb (start + size) bound ⌝ }
-{
-    if bound < start {
-        return false;
-    }
-    size <= bound - start
 }
 
 // The field of 2 bytes at an offset.

@@ -29,7 +29,7 @@ use Rattle.commands.specs.Begins.{command-of, begins}
 use Rattle.commands.specs.declared.StartResult.{StartResult}
 use Rattle.commands.specs.declared.Command.{Command as Asked}
 use Rattle.commands.specs.declared.Command.the-variants.{Enable, Disable, Rename, Create, Delete, Repair}
-use Rattle.commands.specs.declared.Outcome.the-variants.{Started, Refused as Not-started}
+use Rattle.drafts.specs.declared.Outcome.the-variants.{Started, Refused as Not-started}
 use Rattle.book.specs.Kept.{new-name}
 use Rattle.harness.specs.Finished.{finished, left-finished, told, done-by, left-by, done-after, left-after, done-begun, left-begun}
 use Rattle.harness.specs.declared.Done.{Done}

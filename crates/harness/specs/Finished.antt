@@ -10,8 +10,8 @@ use Rattle.jobs.specs.declared.Job.{Job}
 use Rattle.jobs.specs.declared.Did.{Did}
 use Rattle.jobs.specs.declared.Did.the-variants.{Steps as Did-steps, Refused as Did-refused}
 use Rattle.commands.specs.declared.StartResult.{StartResult}
-use Rattle.commands.specs.declared.Outcome.{Outcome}
-use Rattle.commands.specs.declared.Outcome.the-variants.{Started, Refused as Not-started}
+use Rattle.drafts.specs.declared.Outcome.{Outcome}
+use Rattle.drafts.specs.declared.Outcome.the-variants.{Started, Refused as Not-started}
 use Rattle.harness.specs.declared.Done.{Done}
 use Rattle.harness.specs.declared.Done.the-variants.{Steps, Refused}
 

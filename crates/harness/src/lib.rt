@@ -2,8 +2,8 @@
 pub mod tearing; // a half-done erase
 
 use commands::Command;
-use commands::Outcome;
 use commands::StartResult;
+use drafts::Outcome;
 use jobs::Did;
 use jobs::Job;
 use rules::Refusal;

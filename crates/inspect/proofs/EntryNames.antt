@@ -19,7 +19,7 @@ use Rattle.rules.specs.Lists.{all}
 use Rattle.rules.proofs.Lists.Tests.{and-true, by-cases, refused-given}
 use Rattle.rules.proofs.Lists.Combinators.{all-at}
 use Rattle.rules.proofs.Table.Standing.{standing}
-use Rattle.reading.proofs.Seen.{seen, table-read-stands}
+use Rattle.views.proofs.Seen.{seen, table-read-stands}
 use Rattle.inspect.specs.Entries.{entry-there, entry-of, info-of, info-in, entry-info, name-in, entry-name}
 
 -- no table has no names

@@ -1,11 +1,11 @@
 // The entries of the table read, slots or not, by their numbers.
 use super::Total;
 use reading::Known;
-use reading::Viewed;
 use rules::EntryNo;
 use rules::Setting;
 use rules::SlotInfo;
 use rules::refusals::NO_SUCH_ENTRY;
+use views::Viewed;
 ghost use mathlib.Core.Path.{_≡_};
 ghost use Rattle.rules.specs.Table.{entry-count, entries};
 ghost use Rattle.reading.specs.Answers.{known};
@@ -17,7 +17,7 @@ ghost use Rattle.inspect.specs.Entries.{entry-total, info-in, entry-info
 pub fn entry_total(image: &[u8], setting: Setting) -> Total
     ensures { λ r. ⌜ totalled r ≡ entry-total setting (now (image .entry)) ⌝ }
 {
-    let seen = reading::view(image, setting);
+    let seen = views::view(image, setting);
     match seen {
         Viewed::Refused(why) => Total::Refused(why),
         Viewed::At(v) => {
@@ -32,7 +32,7 @@ pub fn entry_total(image: &[u8], setting: Setting) -> Total
 pub fn entry_info(image: &[u8], setting: Setting, entry: EntryNo) -> Known
     ensures { λ r. ⌜ known r ≡ entry-info setting (now (image .entry)) (entry .0) ⌝ }
 {
-    let seen = reading::view(image, setting);
+    let seen = views::view(image, setting);
     match seen {
         Viewed::Refused(why) => Known::Refused(why),
         Viewed::At(v) => {
@@ -46,7 +46,7 @@ pub fn entry_info(image: &[u8], setting: Setting, entry: EntryNo) -> Known
 pub fn entry_name(image: &[u8], setting: Setting, entry: EntryNo) -> &[u8]
     ensures { λ r. ⌜ now r ≡ entry-name setting (now (image .entry)) (entry .0) ⌝ }
 {
-    let seen = reading::view(image, setting);
+    let seen = views::view(image, setting);
     match seen {
         Viewed::Refused(_) => &image[..0],
         Viewed::At(v) => {

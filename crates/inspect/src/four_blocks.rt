@@ -1,9 +1,9 @@
 // Which copies stand, and which pairs agree.
 use super::Condition;
 use super::Inspected;
-use reading::Viewed;
 use rules::Setting;
 use rules::View;
+use views::Viewed;
 ghost use mathlib.Core.Path.{_≡_};
 ghost use Rattle.rules.specs.Answers.{given};
 ghost use Rattle.rules.specs.Copies.{view};
@@ -13,7 +13,7 @@ ghost use Rattle.inspect.specs.Condition.{condition-by, condition, inspe
 pub fn condition_of(image: &[u8], setting: Setting) -> Inspected
     ensures { λ r. ⌜ inspected r ≡ condition setting (now (image .entry)) ⌝ }
 {
-    let seen = reading::view(image, setting);
+    let seen = views::view(image, setting);
     match seen {
         Viewed::Refused(why) => Inspected::Refused(why),
         Viewed::At(v) => Inspected::Is(condition_by(image, setting, v)),

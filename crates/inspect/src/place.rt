@@ -2,10 +2,10 @@
 use super::Held;
 use super::Holding;
 use super::Total;
-use reading::Viewed;
 use rules::PlaceNo;
 use rules::Setting;
 use rules::refusals::NO_SUCH_PLACE;
+use views::Viewed;
 ghost use mathlib.Core.Path.{_≡_};
 ghost use Rattle.rules.specs.Table.{entry-count};
 ghost use Rattle.walks.specs.Entries.{HasEntries};
@@ -17,7 +17,7 @@ ghost use Rattle.inspect.specs.Places.{place-total, held-in, place-at, h
 pub fn place_total(image: &[u8], setting: Setting) -> Total
     ensures { λ r. ⌜ totalled r ≡ place-total setting (now (image .entry)) ⌝ }
 {
-    let seen = reading::view(image, setting);
+    let seen = views::view(image, setting);
     match seen {
         Viewed::Refused(why) => Total::Refused(why),
         Viewed::At(v) => {
@@ -32,7 +32,7 @@ pub fn place_total(image: &[u8], setting: Setting) -> Total
 pub fn place_at(image: &[u8], setting: Setting, place: PlaceNo) -> Holding
     ensures { λ r. ⌜ holding r ≡ place-at setting (now (image .entry)) (place .0) ⌝ }
 {
-    let seen = reading::view(image, setting);
+    let seen = views::view(image, setting);
     match seen {
         Viewed::Refused(why) => Holding::Refused(why),
         Viewed::At(v) => {

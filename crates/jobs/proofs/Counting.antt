@@ -15,7 +15,7 @@ use Rattle.rules.specs.declared.Step.{Step}
 use Rattle.jobs.specs.Jobs.{steps-of, under-way, admitted, steps-done, returned, ran, steps-left, first-step, next-of, counted, counting}
 use Rattle.jobs.specs.declared.Job.{Job}
 use Rattle.jobs.specs.declared.Did.the-variants.{Steps, Refused}
-use Rattle.jobs.specs.declared.Next.the-variants.{Is, Finished}
+use Rattle.part_steps.specs.declared.Next.the-variants.{Is, Finished}
 use Rattle.jobs.proofs.Running.{steps-advanced}
 
 pub counts-none : (left n : ℕ) → left ≡ 0 → Refused (numbered 11) ≡ counted left n

@@ -1,9 +1,3 @@
-pub mod Splits
-pub mod Erasing
-pub mod ProgramSteps
-pub mod RewriteSteps
-pub mod PlaceNumbers
-pub mod PlaceSteps
 pub mod ListedSteps
 pub mod Running
 pub mod Counting

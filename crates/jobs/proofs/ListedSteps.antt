@@ -12,15 +12,16 @@ use Rattle.rules.specs.Steps.{steps}
 use Rattle.rules.specs.Cuts.{inside}
 use Rattle.rules.specs.declared.Step.{Step}
 use Rattle.jobs.specs.Jobs.{place-room, meant, part, listed, first-step}
-use Rattle.jobs.specs.Inner.Parts.{Sized, chosen, beyond, part-length, listed-length, part-inside, listed-inside}
-use Rattle.jobs.specs.declared.windows.Window.{Window}
+use Rattle.part_steps.specs.Inner.Windows.{chosen, beyond}
+use Rattle.jobs.specs.Inner.Parts.{Sized, part-length, listed-length, part-inside, listed-inside}
+use Rattle.part_steps.specs.declared.windows.Window.{Window}
 use Rattle.jobs.specs.declared.Kind.{Kind}
 use Rattle.jobs.specs.declared.Kind.the-variants.{Nothing, Rewrite, Places}
 use Rattle.jobs.specs.declared.Plan.{Plan}
-use Rattle.jobs.proofs.Splits.{all-split, steps-joined, first-left, first-right}
-use Rattle.jobs.proofs.RewriteSteps.{length-rewrite, inside-rewrite}
-use Rattle.jobs.proofs.PlaceNumbers.{length-numbers}
-use Rattle.jobs.proofs.PlaceSteps.{length-places, inside-places}
+use Rattle.part_steps.proofs.Splits.{all-split, steps-joined, first-left, first-right}
+use Rattle.part_steps.proofs.RewriteSteps.{length-rewrite, inside-rewrite}
+use Rattle.part_steps.proofs.PlaceNumbers.{length-numbers}
+use Rattle.part_steps.proofs.PlaceSteps.{length-places, inside-places}
 
 module _ (a offset count : ℕ) (b ks v : List ℕ) (sized : Sized b ks v) where
   pub length-part : (kind : Kind)

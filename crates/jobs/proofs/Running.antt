@@ -19,7 +19,7 @@ use Rattle.jobs.specs.Inner.Parts.{Sized, listed-length, countable, list
 use Rattle.jobs.specs.declared.Job.{Job}
 use Rattle.jobs.specs.declared.Did.{Did}
 use Rattle.jobs.specs.declared.Did.the-variants.{Steps, Refused}
-use Rattle.jobs.proofs.Splits.{drop-least}
+use Rattle.part_steps.proofs.Splits.{drop-least}
 use Rattle.jobs.proofs.ListedSteps.{listed-bound, length-listed, inside-listed}
 
 -- a test that two things do not both hold

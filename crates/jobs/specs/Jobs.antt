@@ -1,14 +1,16 @@
 -- The list of steps that a job value denotes, and what a run of it answers and leaves. Assumes nothing.
 use mathlib.Core.Path.{_≡_}
-use mathlib.Core.List.{List, [], _∷_, _++_}
+use mathlib.Core.List.{List, [], _++_}
 use Prim.Native.Nat.{ℕ, zero, suc, _+_, min}
 use lib.ListN.{take, drop, length}
-use Rattle.rules.specs.Bytes.{field}
 use Rattle.rules.specs.Answers.{Answer, refused, given, numbered}
 use Rattle.rules.specs.Steps.{rewrite}
 use Rattle.rules.specs.Commands.{into-places}
 use Rattle.rules.specs.Cuts.{Progress, run, may-run}
 use Rattle.rules.specs.declared.Step.{Step}
+pub use Rattle.part_steps.specs.Parts.{place-room, meant}
+unfoldable pub use Rattle.part_steps.specs.Parts.{numbers-from, first-step}
+use Rattle.part_steps.specs.declared.Next.{Next}
 use Rattle.jobs.specs.declared.Kind.{Kind}
 use Rattle.jobs.specs.declared.Kind.the-variants.{Nothing, Rewrite, Places}
 use Rattle.jobs.specs.declared.Plan.{Plan}
@@ -16,21 +18,6 @@ use Rattle.jobs.specs.declared.Job.{Job}
 use Rattle.jobs.specs.declared.Did.{Did}
 use Rattle.jobs.specs.declared.Did.the-variants.{Steps, Refused}
 use Rattle.jobs.specs.declared.Ran.{Ran}
-use Rattle.jobs.specs.declared.Next.{Next}
-use Rattle.jobs.specs.declared.Next.the-variants.{Is, Finished}
-
--- the room for places' numbers in a job
-abbrev pub place-room : ℕ
-place-room = 508
-
--- n numbers of two bytes each, lowest byte first, from the front
-unfoldable pub numbers-from : ℕ → List ℕ → List ℕ
-numbers-from zero bs = []
-numbers-from (suc n) bs = field 0 2 bs ∷ numbers-from n (drop 2 bs)
-
--- of the places' numbers the first ones, as many as are meant
-abbrev pub meant : ℕ → List ℕ → List ℕ
-meant count ks = numbers-from (min count place-room) ks
 
 -- the steps of a part: none, a block rewritten, or eight bytes into each of some places
 unfoldable pub part : Kind → ℕ → ℕ → List ℕ → List ℕ → List ℕ → List Step
@@ -112,10 +99,6 @@ image-after-run j budget img = progress-after j budget img (admitted j img) .ima
 
 unfoldable pub steps-left : Job → ℕ
 steps-left j = length (steps-of j)
-
-unfoldable pub first-step : List Step → Next
-first-step [] = Finished
-first-step (s ∷ ss) = Is s
 
 unfoldable pub next-of : Job → Next
 next-of j = first-step (steps-of j)

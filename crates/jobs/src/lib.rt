@@ -1,22 +1,18 @@
 // A job: the list of steps of a command, by value. Running it, what remains of it, which step comes next, steps that
 // were carried out elsewhere.
+use fields::bounds;
+use part_steps::windows::Window;
 use rules::Refusal;
-use rules::Step;
 use rules::refusals::NO_STEPS_LEFT;
 use rules::refusals::OUTSIDE_IMAGE;
-use windows::Window;
 ghost use mathlib.Core.Path.{_≡_};
 ghost use Prim.Native.Nat.{_-_};
 ghost use Rattle.jobs.specs.Jobs.{ran-by, returned, lent, did-by-run, image-after-run, steps-left, next-of, counted, counting};
 ghost use Rattle.jobs.specs.Inner.Parts.{Sized, listed-length, countable};
 
-mod device;
-mod into_places;
-mod numbers;
 mod parts;
-mod programs;
-mod rewriting;
-mod windows;
+
+pub use part_steps::Next; // the step that comes next
 
 // The room for places' numbers in a job: two bytes for each place that a pointer block may have.
 pub const PLACES_SIZE: usize = 2 * rules::MOST_PLACES;
@@ -61,12 +57,6 @@ pub enum Did {
 pub struct Ran {
     pub job: Job,
     pub did: Did,
-}
-
-// The step that comes next.
-pub enum Next {
-    Is(Step),
-    Finished,
 }
 
 // Does as many steps as the budget says, or all that remain.
@@ -139,7 +129,7 @@ pub fn run_in_place<'a>(
         n: budget,
     };
     parts::do_steps(plan, first, second, places, value, window, image);
-    Did::Steps(numbers::min(budget, count - done))
+    Did::Steps(bounds::min(budget, count - done))
 }
 
 // How many steps remain.
@@ -154,7 +144,7 @@ pub fn remaining(job: Job) -> usize
 pub fn remaining_of(plan: Plan, done: usize) -> usize
     ensures { λ r. ⌜ r ≡ listed-length plan - done ⌝ }
 {
-    numbers::saturating_sub(parts::step_count(plan), done)
+    bounds::saturating_sub(parts::step_count(plan), done)
 }
 
 // Which step comes next.
@@ -205,5 +195,5 @@ pub fn counted_of(plan: Plan, done: usize, n: usize) -> Did
     if left == 0 {
         return Did::Refused(NO_STEPS_LEFT);
     }
-    Did::Steps(numbers::min(n, left))
+    Did::Steps(bounds::min(n, left))
 }

@@ -1,19 +1,21 @@
 // The two parts of a job: of the listed steps, those from one on.
 use super::Kind;
-use super::Next;
 use super::Plan;
-use super::into_places;
-use super::numbers;
-use super::rewriting;
-use super::windows;
-use super::windows::Window;
+use fields::bounds;
+use part_steps::Next;
+use part_steps::into_places;
+use part_steps::rewriting;
+use part_steps::windows;
+use part_steps::windows::Window;
 ghost use mathlib.Core.Path.{_≡_};
 ghost use mathlib.Core.Bool.{true};
 ghost use Prim.Native.Nat.{_+_, _*_, _≤_, min};
 ghost use lib.ListN.{length, drop};
 ghost use Rattle.rules.specs.Steps.{steps};
-ghost use Rattle.jobs.specs.Jobs.{place-room, meant, part, listed, first-step};
-ghost use Rattle.jobs.specs.Inner.Parts.{Sized, part-length, listed-length, part-inside, listed-inside, chosen};
+ghost use Rattle.part_steps.specs.Parts.{place-room, meant, first-step};
+ghost use Rattle.part_steps.specs.Inner.Windows.{chosen};
+ghost use Rattle.jobs.specs.Jobs.{part, listed};
+ghost use Rattle.jobs.specs.Inner.Parts.{Sized, part-length, listed-length, part-inside, listed-inside};
 
 // A rewrite: four zeros, the erase and a byte each.
 const REWRITE_STEPS: usize = 4101;
@@ -26,7 +28,7 @@ fn part_length(kind: Kind, count: usize) -> usize
     match kind {
         Kind::Nothing => 0,
         Kind::Rewrite => REWRITE_STEPS,
-        Kind::Places => 8 * numbers::min(count, rules::MOST_PLACES),
+        Kind::Places => 8 * bounds::min(count, rules::MOST_PLACES),
     }
 }
 
@@ -59,7 +61,7 @@ pub fn steps_inside(plan: Plan, places: &[u8], from: usize, len: usize) -> bool
 {
     let first = plan.first;
     let second = plan.second;
-    let rest = numbers::saturating_sub(from, part_length(first, plan.count));
+    let rest = bounds::saturating_sub(from, part_length(first, plan.count));
     part_inside(len, plan, first, plan.at, places, from)
         & part_inside(len, plan, second, plan.after, places, rest)
 }

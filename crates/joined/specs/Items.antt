@@ -14,8 +14,8 @@ use Rattle.rules.specs.declared.Step.{Step}
 use Rattle.blocks.specs.Made.{Lists}
 use Rattle.commands.specs.Begins.{refusal}
 use Rattle.commands.specs.declared.StartResult.{StartResult}
-use Rattle.commands.specs.declared.Outcome.{Outcome as Answered}
-use Rattle.commands.specs.declared.Outcome.the-variants.{Started, Refused}
+use Rattle.drafts.specs.declared.Outcome.{Outcome as Answered}
+use Rattle.drafts.specs.declared.Outcome.the-variants.{Started, Refused}
 use Rattle.joined.specs.Runs.{Run, all-ran, left-by-runs}
 
 -- a command, what its start returned, the runs, and which bytes a power failure inside an erase had wiped

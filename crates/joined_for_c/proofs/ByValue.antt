@@ -22,8 +22,8 @@ use Rattle.jobs.proofs.Running.{run-returned}
 use Rattle.blocks.specs.Made.{Lists, no-job}
 use Rattle.commands.specs.declared.StartResult.{StartResult}
 use Rattle.job_bytes.specs.Form.{job-size, malformed, job-from, holds-job, decoded}
-use Rattle.linked.specs.Begun.{for-job, begun-as}
-use Rattle.linked.specs.Ran.{Lent, lent, Running, running, ran-as}
+use Rattle.handing.specs.Begun.{for-job, begun-as}
+use Rattle.codes.specs.Ran.{Lent, lent, Running, running, ran-as}
 use Rattle.joined.specs.Runs.{Run, all-ran}
 use Rattle.joined.specs.Items.{Carried, begun-so, carried-out, flash-left, all-carried-out}
 use Rattle.joined_for_c.specs.Items.{RunForC, all-ran-for-c, CarriedForC, begun-for-c, runs-after, carried-out-for-c, did-by, run-by-value, begun-by-value, by-value, all-carried-out-for-c}

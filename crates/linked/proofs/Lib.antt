@@ -1,11 +1,3 @@
-pub mod Numbered
+pub mod Ordered
 pub mod Named
-pub mod Held
-pub mod AfterRun
-pub mod AfterCount
-pub mod MadeTyped
-pub mod RowLengths
-pub mod StartTyped
-pub mod Beginning
 pub mod NamedEntries
-pub mod HandedOver

@@ -1,38 +1,16 @@
--- The name of a slot: refused, too long for what is lent, or in front of it. Assumes nothing.
+-- A name in front of the lent bytes, or a refusal that writes nothing. Assumes nothing.
 use mathlib.Core.Path.{_≡_, _∙_}
 use mathlib.Core.List.{List}
-use Prim.Native.Nat.{ℕ, _+_, _≤_, _<_}
+use Prim.Native.Nat.{ℕ, _+_, _≤_}
 use native.Mathlib.Omega.{arith}
 use lib.ListN.{length}
 use lib.Seq.{sets-eq}
-use borrow.Author.Tests.{le-leb, lt-leb}
-use Rattle.rules.specs.Answers.{Answer, refused, given, unless, _>>=_, numbered}
+use Rattle.rules.specs.Answers.{Answer, refused, given}
 use Rattle.rules.specs.declared.Refusal.{Refusal}
-use Rattle.rules.specs.declared.Setting.{Setting}
-use Rattle.rules.specs.Readers.{row-after, slot-info, slot-name}
-use Rattle.rules.specs.declared.SlotInfo.{SlotInfo}
+use Rattle.rules.specs.Readers.{row-after}
 use Rattle.text.specs.Put.{Put}
-use Rattle.linked.specs.Answered.{Written, too-few, name-answer}
-use Rattle.linked.proofs.Numbered.{number-refused, kept-refused}
-
-module _ (s : Setting) (img : List ℕ) (k room : ℕ) where
-  pub name-refused : {why : Refusal} → refused why ≡ slot-info s img k → refused why ≡ name-answer s img k room
-  unfolding name-answer _>>=_
-  name-refused e = rw (← e)
-
-  pub name-too-long : {f : SlotInfo}
-      → given f ≡ slot-info s img k
-      → room < length (slot-name s img k)
-      → refused (numbered too-few) ≡ name-answer s img k room
-  unfolding name-answer _>>=_ unless
-  name-too-long e h = rw (← e, lt-leb (length (slot-name s img k)) room h)
-
-  pub name-given : {f : SlotInfo}
-      → given f ≡ slot-info s img k
-      → length (slot-name s img k) ≤ room
-      → given (slot-name s img k) ≡ name-answer s img k room
-  unfolding name-answer _>>=_ unless
-  name-given e h = rw (← e, le-leb (length (slot-name s img k)) room h)
+use Rattle.linked.specs.Answered.{Written}
+use Rattle.codes.proofs.Numbered.{number-refused, kept-refused}
 
 -- bytes put at the front
 pub put-front : {row after text : List ℕ} {end : ℕ}

@@ -1,39 +1,14 @@
--- An entry with its name: refused, its name too long for what is lent, or given. Assumes nothing.
+-- What is lent for an entry with its name afterwards. Assumes nothing.
 use mathlib.Core.Path.{_≡_}
 use mathlib.Core.List.{List}
-use Prim.Native.Nat.{ℕ, _≤_, _<_}
+use Prim.Native.Nat.{ℕ}
 use lib.ListN.{length}
-use borrow.Author.Tests.{le-leb, lt-leb}
-use Rattle.rules.specs.Answers.{Answer, refused, given, unless, _>>=_, numbered}
+use Rattle.rules.specs.Answers.{Answer, refused, given, _>>=_}
 use Rattle.rules.specs.declared.Refusal.{Refusal}
-use Rattle.rules.specs.declared.Setting.{Setting}
 use Rattle.rules.specs.Readers.{row-after}
-use Rattle.rules.specs.declared.SlotInfo.{SlotInfo}
-use Rattle.inspect.specs.Entries.{entry-info, entry-name}
-use Rattle.linked.specs.Answered.{number, kept}
-use Rattle.linked.specs.Inspected.{NamedEntry, named-entry, name-of}
-use Rattle.linked.proofs.Numbered.{number-refused, kept-refused}
-
-module _ (s : Setting) (img : List ℕ) (i room : ℕ) where
-  pub entry-refused : {why : Refusal} → refused why ≡ entry-info s img i → refused why ≡ named-entry s img i room
-  unfolding named-entry _>>=_
-  entry-refused e = rw (← e)
-
-  pub entry-name-too-long : {f : SlotInfo}
-      → given f ≡ entry-info s img i
-      → room < length (entry-name s img i)
-      → refused (numbered 91) ≡ named-entry s img i room
-  unfolding named-entry _>>=_ unless
-  entry-name-too-long e h = rw (← e, lt-leb (length (entry-name s img i)) room h)
-
-  pub entry-given : {f : SlotInfo}
-      → given f ≡ entry-info s img i
-      → length (entry-name s img i) ≤ room
-      → given (record { name = entry-name s img i; info = f }) ≡ named-entry s img i room
-  unfolding named-entry _>>=_ unless
-  entry-given e h = rw (← e, le-leb (length (entry-name s img i)) room h)
-
--- ---- what is lent afterwards
+use Rattle.codes.specs.Answered.{number, kept}
+use Rattle.linked.specs.Inspected.{NamedEntry, name-of}
+use Rattle.codes.proofs.Numbered.{number-refused, kept-refused}
 
 module _ {a : Answer NamedEntry} (row : List ℕ) where
   -- a refusal leaves it all as it was

@@ -1,22 +1,13 @@
--- An answer as C sees it: a number, and what the lent places hold afterwards. Assumes nothing.
+-- A list as C gets it: a number returned, and what the lent places hold afterwards. Assumes nothing.
 use mathlib.Core.Path.{_≡_}
 use mathlib.Core.List.{List}
 use Prim.Native.Nat.{ℕ}
 use lib.Dec.{leb}
 use lib.ListN.{length}
-use Rattle.rules.specs.Answers.{Answer, refused, given, unless, _>>=_}
+use Rattle.rules.specs.Answers.{Answer, given, unless, _>>=_}
 use Rattle.rules.specs.declared.Setting.{Setting}
 use Rattle.rules.specs.Readers.{row-after, slot-info, slot-name}
-
--- 0, or the number of the refusal, which is never 0
-unfoldable pub number : {A : Type 0} → Answer A → ℕ
-number (refused why) = why .number
-number (given a) = 0
-
--- what a lent number is afterwards: on a refusal what it was
-unfoldable pub kept : {A : Type 0} → (A → ℕ) → Answer A → ℕ → ℕ
-kept f (refused why) old = old
-kept f (given a) old = f a
+use Rattle.codes.specs.Answered.{number, kept}
 
 -- a list is written into the front of a lent row, and counted
 pub record Written (a : Answer (List ℕ)) (r : ℕ) (row row′ : List ℕ) (count count′ : ℕ) : Type 0 where

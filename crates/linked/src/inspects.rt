@@ -1,14 +1,12 @@
 // A flash looked into: where things are, which copies stand and agree, its entries, its places.
-use super::judgements;
 use inspect::Holding;
 use inspect::Inspected;
-use inspect::Total;
-use reading::Faults;
 use reading::Known;
-use reading::Viewed;
 use rules::EntryNo;
 use rules::PlaceNo;
 use rules::Setting;
+use views::Faults;
+use views::Viewed;
 ghost use mathlib.Core.Path.{_≡_};
 ghost use lib.ListN.{length};
 ghost use Rattle.rules.specs.Numbers.{setting};
@@ -17,8 +15,9 @@ ghost use Rattle.rules.specs.Readers.{row-after, table-faults};
 ghost use Rattle.inspect.specs.Condition.{condition};
 ghost use Rattle.inspect.specs.Entries.{entry-total};
 ghost use Rattle.inspect.specs.Places.{place-total, place-at};
-ghost use Rattle.linked.specs.Answered.{number, kept};
-ghost use Rattle.linked.specs.Inspected.{bit, place-kind, place-slot, named-entry, name-of};
+ghost use Rattle.codes.specs.Answered.{number, kept};
+ghost use Rattle.codes.specs.Judged.{bit, place-kind, place-slot};
+ghost use Rattle.linked.specs.Inspected.{named-entry, name-of};
 
 // Where the pointer blocks are, and which copies of table and pointer block are read.
 #[no_mangle]
@@ -55,7 +54,7 @@ pub extern "C" fn delunkpawi_view(
         spt0: spt0,
         spt1: spt1,
     };
-    let seen = reading::view(image, setting);
+    let seen = views::view(image, setting);
     match seen {
         Viewed::Refused(why) => why.number,
         Viewed::At(v) => {
@@ -119,12 +118,13 @@ pub extern "C" fn delunkpawi_copies(
     match inspected {
         Inspected::Refused(why) => why.number,
         Inspected::Is(k) => {
-            *table0 = judgements::bit(k.spt0);
-            *table1 = judgements::bit(k.spt1);
-            *pointers0 = judgements::bit(k.cpb0);
-            *pointers1 = judgements::bit(k.cpb1);
-            *tables = judgements::bit(k.tables);
-            *pointers = judgements::bit(k.pointers);
+            let bits = codes::judgements::bits_of(k);
+            *table0 = bits.spt0;
+            *table1 = bits.spt1;
+            *pointers0 = bits.cpb0;
+            *pointers1 = bits.cpb1;
+            *tables = bits.tables;
+            *pointers = bits.pointers;
             0
         }
     }
@@ -166,18 +166,14 @@ pub extern "C" fn delunkpawi_table_faults(
         spt0: spt0,
         spt1: spt1,
     };
-    let faults = reading::table_faults(image, setting);
+    let faults = views::table_faults(image, setting);
     match faults {
         Faults::Refused(why) => why.number,
         Faults::Are(f) => {
-            let fault0 = f.fault0;
-            let fault1 = f.fault1;
-            let e0 = fault0.entry;
-            let e1 = fault1.entry;
-            *rule0 = fault0.rule;
-            *entry0 = e0.0;
-            *rule1 = fault1.rule;
-            *entry1 = e1.0;
+            *rule0 = f.fault0.rule;
+            *entry0 = f.fault0.entry.0;
+            *rule1 = f.fault1.rule;
+            *entry1 = f.fault1.entry.0;
             0
         }
     }
@@ -203,14 +199,7 @@ pub extern "C" fn delunkpawi_entry_count(
         spt0: spt0,
         spt1: spt1,
     };
-    let total = inspect::entry::entry_total(image, setting);
-    match total {
-        Total::Refused(why) => why.number,
-        Total::Is(n) => {
-            *count = n;
-            0
-        }
-    }
+    codes::answers::total(inspect::entry::entry_total(image, setting), count)
 }
 
 // The name of an entry up to its zero into the front of the lent bytes, its length, and the entry's start, length and
@@ -262,14 +251,12 @@ pub extern "C" fn delunkpawi_entry(
         spt0: spt0,
         spt1: spt1,
     };
+    let found = inspect::entry::entry_name(image, setting, EntryNo(entry));
     let known = inspect::entry::entry_info(image, setting, EntryNo(entry));
-    match known {
+    let fitting = codes::names::fitting(known, found.len(), name.len());
+    match fitting {
         Known::Refused(why) => why.number,
         Known::Is(f) => {
-            let found = inspect::entry::entry_name(image, setting, EntryNo(entry));
-            if name.len() < found.len() {
-                return 91;
-            }
             text::put_bytes(name, 0, found);
             *count = found.len();
             *start = f.start;
@@ -300,14 +287,7 @@ pub extern "C" fn delunkpawi_place_count(
         spt0: spt0,
         spt1: spt1,
     };
-    let total = inspect::place::place_total(image, setting);
-    match total {
-        Total::Refused(why) => why.number,
-        Total::Is(n) => {
-            *count = n;
-            0
-        }
-    }
+    codes::answers::total(inspect::place::place_total(image, setting), count)
 }
 
 // What a place holds: 0 for erased, 1 for live with its slot, 2 for spent, 3 for part-written, 4 for stray; and its value.
@@ -346,8 +326,9 @@ pub extern "C" fn delunkpawi_place(
         Holding::Refused(why) => why.number,
         Holding::Is(h) => {
             let judgement = h.judgement;
-            *kind = judgements::kind_of(judgement);
-            *slot = judgements::slot_of(judgement);
+            let code = codes::judgements::place_code(judgement);
+            *kind = code.kind;
+            *slot = code.slot;
             *value = h.value;
             0
         }

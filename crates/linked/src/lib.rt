@@ -5,5 +5,3 @@ pub mod reads; // a flash read
 pub mod inspects; // a flash looked into
 pub mod starts; // a job started into its buffer
 pub mod runs; // a job run, and what remains of it
-mod steps; // a step as three numbers
-mod judgements; // a judgement of a place as two numbers

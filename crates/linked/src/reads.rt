@@ -8,7 +8,8 @@ ghost use mathlib.Core.Path.{_≡_};
 ghost use lib.ListN.{length};
 ghost use Rattle.rules.specs.Numbers.{setting};
 ghost use Rattle.rules.specs.Readers.{order-list, slot-count, slot-info};
-ghost use Rattle.linked.specs.Answered.{number, kept, Written, name-answer};
+ghost use Rattle.codes.specs.Answered.{number, kept};
+ghost use Rattle.linked.specs.Answered.{Written, name-answer};
 
 // The boot order's slot numbers into the front of the row, and how many there are.
 #[no_mangle]
@@ -110,8 +111,7 @@ pub extern "C" fn delunkpawi_slot_facts(
     match known {
         Known::Refused(why) => why.number,
         Known::Is(f) => {
-            let e = f.entry;
-            *entry = e.0;
+            *entry = f.entry.0;
             *start = f.start;
             *size = f.size;
             *flags = f.flags;
@@ -141,14 +141,12 @@ pub extern "C" fn delunkpawi_slot_name(
         spt0: spt0,
         spt1: spt1,
     };
+    let found = reading::slot_name(image, setting, SlotNo(slot));
     let known = reading::slot_info(image, setting, SlotNo(slot));
-    match known {
+    let fitting = codes::names::fitting(known, found.len(), name.len());
+    match fitting {
         Known::Refused(why) => why.number,
         Known::Is(_) => {
-            let found = reading::slot_name(image, setting, SlotNo(slot));
-            if name.len() < found.len() {
-                return 91;
-            }
             text::put_bytes(name, 0, found);
             *count = found.len();
             0

@@ -1,13 +1,11 @@
 // A job run, what remains of it, and steps of it that were carried out elsewhere.
-use super::steps;
-use jobs::Did;
 ghost use mathlib.Core.Path.{_≡_};
 ghost use Rattle.jobs.specs.Jobs.{steps-left, next-of};
 ghost use Rattle.job_bytes.specs.Form.{decoded};
-ghost use Rattle.linked.specs.Answered.{number, kept};
-ghost use Rattle.linked.specs.Counted.{Counted};
-ghost use Rattle.linked.specs.Ran.{lent, running, ran-as};
-ghost use Rattle.linked.specs.StepNumbers.{step-kind, step-address, step-byte};
+ghost use Rattle.codes.specs.Answered.{number, kept};
+ghost use Rattle.codes.specs.Counted.{Counted};
+ghost use Rattle.codes.specs.Ran.{lent, running, ran-as};
+ghost use Rattle.codes.specs.StepNumbers.{step-kind, step-address, step-byte};
 
 // Does as many steps as the budget says, or all that remain, and tells how many.
 #[no_mangle]
@@ -23,17 +21,7 @@ pub extern "C" fn delunkpawi_run(
         (running (now (job .entry)) (now (image .entry)))
         ⌝ }
 {
-    if !job_bytes::held::is_job(job) {
-        return 90;
-    }
-    let did = job_bytes::held::run(job, image, budget);
-    match did {
-        Did::Refused(why) => why.number,
-        Did::Steps(n) => {
-            *done = n;
-            0
-        }
-    }
+    codes::runs::run(job, image, budget, done)
 }
 
 // How many steps remain.
@@ -73,10 +61,10 @@ pub extern "C" fn delunkpawi_next_step(
     if !job_bytes::held::is_job(job) {
         return 90;
     }
-    let next = job_bytes::held::next_step(job);
-    *kind = steps::kind_of(next);
-    *address = steps::address_of(next);
-    *byte = steps::byte_of(next);
+    let code = codes::steps::step_code(job_bytes::held::next_step(job));
+    *kind = code.kind;
+    *address = code.address;
+    *byte = code.byte;
     0
 }
 
@@ -87,15 +75,5 @@ pub extern "C" fn delunkpawi_advance(job: &mut [u8], steps: usize, count: &mut u
         Counted steps r (now (job .entry)) (now (job .exit)) (now (count .entry)) (now (count .exit))
         ⌝ }
 {
-    if !job_bytes::held::is_job(job) {
-        return 90;
-    }
-    let did = job_bytes::held::advance(job, steps);
-    match did {
-        Did::Refused(why) => why.number,
-        Did::Steps(n) => {
-            *count = n;
-            0
-        }
-    }
+    codes::runs::advance(job, steps, count)
 }

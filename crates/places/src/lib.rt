@@ -1,6 +1,4 @@
 // A pointer block: whether it stands, its places, what a place holds by a table and what it adds to the boot order.
-pub mod order; // the walk of the boot order
-
 use rules::Place;
 use rules::PlaceNo;
 use rules::SlotNo;

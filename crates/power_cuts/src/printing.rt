@@ -1,6 +1,6 @@
 // The lines of an image and of a command.
 use super::tally::Tally;
-use commands::Outcome;
+use drafts::Outcome;
 use libc::STDOUT_FILENO;
 use rules::SlotNo;
 

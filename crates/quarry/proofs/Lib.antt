@@ -1,5 +1,2 @@
 pub mod Opened
 pub mod Cases
-pub mod Examples
-pub mod QuarryList
-pub mod FinalExamples

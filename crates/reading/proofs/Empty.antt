@@ -22,7 +22,7 @@ use Rattle.rules.proofs.Steps.Frame.{length-block}
 use Rattle.rules.proofs.Table.Standing.{standing}
 use Rattle.rules.proofs.Table.Renaming.{slot-row-found}
 use Rattle.reading.specs.Answers.{is-refused}
-use Rattle.reading.proofs.Seen.{seen, table-followed, table-read-stands}
+use Rattle.views.proofs.Seen.{seen, table-followed, table-read-stands}
 
 module _ (s : Setting) (img : List ℕ) where
   -- ---- the table

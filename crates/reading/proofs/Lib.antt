@@ -1,6 +1,2 @@
-pub mod Views
-pub mod Seen
-pub mod Due
-pub mod Opening
 pub mod SlotInfo
 pub mod Empty

@@ -4,29 +4,13 @@ use mathlib.Core.List.{List}
 use Prim.Native.Nat.{ℕ}
 use lib.ListN.{length}
 use Rattle.rules.specs.Answers.{Answer, refused, given, _>>=_}
-use Rattle.rules.specs.declared.View.{View}
-use Rattle.rules.specs.declared.TableFaults.{TableFaults}
 use Rattle.rules.specs.declared.SlotInfo.{SlotInfo}
-use Rattle.reading.specs.declared.Viewed.{Viewed}
-use Rattle.reading.specs.declared.Viewed.the-variants.{At, Refused as NotViewed}
-use Rattle.reading.specs.declared.Faults.{Faults}
-use Rattle.reading.specs.declared.Faults.the-variants.{Are, Refused as NotFaulted}
 use Rattle.reading.specs.declared.Listed.{Listed}
 use Rattle.reading.specs.declared.Listed.the-variants.{Count, Refused as NotListed}
 use Rattle.reading.specs.declared.Counted.{Counted}
 use Rattle.reading.specs.declared.Counted.the-variants.{Slots, Refused as NotCounted}
 use Rattle.reading.specs.declared.Known.{Known}
 use Rattle.reading.specs.declared.Known.the-variants.{Is, Refused as NotKnown}
-
--- where things are, or refused 1, 2, 3, 50, 51 or 5
-unfoldable pub viewed : Viewed → Answer View
-viewed (At v) = given v
-viewed (NotViewed why) = refused why
-
--- the first broken rule of each table copy, or refused 1 to 3
-unfoldable pub faulted : Faults → Answer TableFaults
-faulted (Are f) = given f
-faulted (NotFaulted why) = refused why
 
 -- how many slot numbers were written, or refused 1, 2, 3, 50, 51, 5 or 13
 unfoldable pub listed : Listed → Answer ℕ

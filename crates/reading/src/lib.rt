@@ -1,33 +1,16 @@
-// Reading a flash: where things are, the table read, the boot order, the slots. Nothing here stores into an image.
-mod numbers; // refusals 1 to 3
-mod followed; // refusals 50, 51 and 5
+// Reading a flash: the table read, the boot order, the slots. Nothing here stores into an image.
 mod order; // the boot order by two blocks, and refusal 13
 mod info; // one slot by a table, and refusal 7
 
-use rules::NO_FAULT;
 use rules::Refusal;
 use rules::Setting;
 use rules::SlotInfo;
 use rules::SlotNo;
-use rules::TableFaults;
-use rules::View;
+use views::Viewed;
 ghost use mathlib.Core.Path.{_≡_};
 ghost use lib.ListN.{length};
-ghost use Rattle.rules.specs.Copies.{view};
-ghost use Rattle.rules.specs.Readers.{order-list, row-after, table-part, table-faults, slot-count, slot-info, slot-name};
-ghost use Rattle.reading.specs.Answers.{viewed, faulted, listed, count-of, counted, known};
-
-// Where things are, or a refusal.
-pub enum Viewed {
-    At(View),
-    Refused(Refusal),
-}
-
-// The first broken rule of each table copy, or a refusal.
-pub enum Faults {
-    Are(TableFaults),
-    Refused(Refusal),
-}
+ghost use Rattle.rules.specs.Readers.{order-list, row-after, table-part, slot-count, slot-info, slot-name};
+ghost use Rattle.reading.specs.Answers.{listed, count-of, counted, known};
 
 // How many slot numbers the order list wrote, or a refusal.
 pub enum Listed {
@@ -47,53 +30,11 @@ pub enum Known {
     Refused(Refusal),
 }
 
-// Refusals 1, 2, 3, 50 or 51, and 5, or where things are and which copies are read.
-pub fn view(image: &[u8], setting: Setting) -> Viewed
-    ensures { λ r. ⌜ viewed r ≡ view setting (now (image .entry)) ⌝ }
-{
-    let due = numbers::due(setting, image.len());
-    if due != 0 {
-        return Viewed::Refused(Refusal {
-            number: due,
-            fault0: NO_FAULT,
-            fault1: NO_FAULT,
-        });
-    }
-    if table::table_stands(image, setting.spt0, setting) {
-        return followed::view_through(image, setting, setting.spt0);
-    }
-    if table::table_stands(image, setting.spt1, setting) {
-        return followed::view_through(image, setting, setting.spt1);
-    }
-    Viewed::Refused(followed::no_table(image, setting))
-}
-
-// The first broken rule of each table copy, and the entry that breaks it: refused 1 to 3 only. A copy that stands has
-// none.
-pub fn table_faults(image: &[u8], setting: Setting) -> Faults
-    ensures { λ r. ⌜ faulted r ≡ table-faults setting (now (image .entry)) ⌝ }
-{
-    let due = numbers::due(setting, image.len());
-    if due != 0 {
-        return Faults::Refused(Refusal {
-            number: due,
-            fault0: NO_FAULT,
-            fault1: NO_FAULT,
-        });
-    }
-    let fault0 = table::table_fault(image, setting.spt0, setting);
-    let fault1 = table::table_fault(image, setting.spt1, setting);
-    Faults::Are(TableFaults {
-        fault0: fault0,
-        fault1: fault1,
-    })
-}
-
 // The 4,096 bytes of the table copy read, as a part of the image; an empty part when refused.
 pub fn table_read(image: &[u8], setting: Setting) -> &[u8]
     ensures { λ r. ⌜ now r ≡ table-part setting (now (image .entry)) ⌝ }
 {
-    let seen = view(image, setting);
+    let seen = views::view(image, setting);
     match seen {
         Viewed::Refused(_) => &image[..0],
         Viewed::At(v) => {
@@ -110,7 +51,7 @@ pub fn order_list(image: &[u8], setting: Setting, row: &mut [u32]) -> Listed
     ensures written { λ r. ⌜ now (row .exit) ≡ row-after
         (order-list setting (now (image .entry)) (length (now (row .entry)))) (now (row .entry)) ⌝ }
 {
-    let seen = view(image, setting);
+    let seen = views::view(image, setting);
     match seen {
         Viewed::Refused(why) => Listed::Refused(why),
         Viewed::At(v) => {
@@ -127,7 +68,7 @@ pub fn order_list(image: &[u8], setting: Setting, row: &mut [u32]) -> Listed
 pub fn slot_count(image: &[u8], setting: Setting) -> Counted
     ensures { λ r. ⌜ counted r ≡ slot-count setting (now (image .entry)) ⌝ }
 {
-    let seen = view(image, setting);
+    let seen = views::view(image, setting);
     match seen {
         Viewed::Refused(why) => Counted::Refused(why),
         Viewed::At(v) => {
@@ -144,7 +85,7 @@ pub fn slot_count(image: &[u8], setting: Setting) -> Counted
 pub fn slot_info(image: &[u8], setting: Setting, slot: SlotNo) -> Known
     ensures { λ r. ⌜ known r ≡ slot-info setting (now (image .entry)) (slot .0) ⌝ }
 {
-    let seen = view(image, setting);
+    let seen = views::view(image, setting);
     match seen {
         Viewed::Refused(why) => Known::Refused(why),
         Viewed::At(v) => {
@@ -159,7 +100,7 @@ pub fn slot_info(image: &[u8], setting: Setting, slot: SlotNo) -> Known
 pub fn slot_name(image: &[u8], setting: Setting, slot: SlotNo) -> &[u8]
     ensures { λ r. ⌜ now r ≡ slot-name setting (now (image .entry)) (slot .0) ⌝ }
 {
-    let seen = view(image, setting);
+    let seen = views::view(image, setting);
     match seen {
         Viewed::Refused(_) => &image[..0],
         Viewed::At(v) => {

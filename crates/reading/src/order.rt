@@ -28,7 +28,7 @@ pub fn list_order(t: &[u8], p: &[u8], row: &mut [u32]) -> Listed
     if !has_room(t, rows, p, places, row.len()) {
         return Listed::Refused(ROW_TOO_SHORT);
     }
-    let len = places::order::write_order(t, rows, p, places, row);
+    let len = boot_order::write_order(t, rows, p, places, row);
     Listed::Count(len)
 }
 
@@ -41,5 +41,5 @@ fn has_room(t: &[u8], rows: Rows, p: &[u8], places: Places, room: usize) -> bool
     if slots::slot_total(t, rows) <= room {
         return true;
     }
-    places::order::order_length(t, rows, p, places) <= room
+    boot_order::order_length(t, rows, p, places) <= room
 }

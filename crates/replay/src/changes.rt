@@ -1,8 +1,8 @@
 // Lines that change the image or the setting. The image lies at the front of its room.
-use super::bounds::min;
-use super::bounds::part_of;
 use super::desk;
 use super::desk::Desk;
+use fields::bounds::min;
+use fields::bounds::part_of;
 use rules::Setting;
 use script::Change;
 ghost use Prim.Native.Nat.{_+_, _≤_, _<_};
@@ -15,7 +15,7 @@ pub fn change(desk: Desk, room: &mut [u8], asked: Change, line: &[u8]) -> Desk {
         Change::Image(length, byte) => new_image(desk, room, length, byte),
         Change::Length(length) => new_length(desk, room, length),
         Change::Setting(granule, spt0, spt1) => new_setting(desk, granule, spt0, spt1),
-        Change::Put(address) => put(desk, room, address, script::last_word(line)),
+        Change::Put(address) => put(desk, room, address, tokens::last_word(line)),
         Change::Copy(from, to, n) => copy(desk, room, from, to, n),
     }
 }
@@ -62,7 +62,7 @@ fn put(desk: Desk, room: &mut [u8], at: usize, word: &[u8]) -> Desk {
     }
     let from = part.from;
     let to = part.to;
-    script::hex::decode(word, &mut room[from..to]);
+    tokens::hex::decode(word, &mut room[from..to]);
     desk
 }
 

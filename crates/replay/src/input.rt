@@ -1,14 +1,14 @@
 // Pieces of standard input, made into lines.
-use super::bounds::min;
 use super::changes;
 use super::desk;
 use super::desk::Desk;
 use super::questions;
 use super::starts;
 use super::steps;
+use fields::bounds::min;
 use libc::STDIN_FILENO;
 use script::Line;
-use script::words;
+use tokens::words;
 
 // Nothing says that the input ends, so turns are counted down from a number that no run uses up.
 pub fn replay(room: &mut [u8], line: &mut [u8]) {
@@ -92,7 +92,7 @@ fn do_line(desk: Desk, room: &mut [u8], line: &[u8]) -> Desk {
         }
         Line::Command(command) => starts::start(desk, room, command, b""),
         Line::Named(command) => {
-            starts::start_named(desk, room, command, script::last_word(line))
+            starts::start_named(desk, room, command, tokens::last_word(line))
         }
         Line::Steps(asked_steps) => steps::carry_out(desk, room, asked_steps, line),
         Line::Error => desk::error(desk),

@@ -1,5 +1,4 @@
 // Replays a script from standard input against an image in memory, and prints what it asks.
-mod bounds; // the smaller of two numbers
 mod printing; // answers on standard output
 mod desk; // what a script works on
 mod changes; // lines that change the image or the setting

@@ -1,10 +1,10 @@
 // Lines that start a job, which becomes the current one.
-use super::bounds::min;
 use super::desk;
 use super::desk::Desk;
 use super::printing;
 use commands::Command;
-use commands::Outcome;
+use drafts::Outcome;
+use fields::bounds::min;
 
 // A command of this name; an empty one where it has none.
 pub fn start(desk: Desk, room: &[u8], command: Command, name: &[u8]) -> Desk {
@@ -38,6 +38,6 @@ pub fn start_named(desk: Desk, room: &[u8], command: Command, word: &[u8]) -> De
 
 fn start_with(desk: Desk, room: &[u8], command: Command, word: &[u8], name: &mut [u8]) -> Desk {
     let n = min(word.len() / 2, name.len());
-    script::hex::decode(word, &mut name[0..n]);
+    tokens::hex::decode(word, &mut name[0..n]);
     start(desk, room, command, &name[0..n])
 }

@@ -1,18 +1,18 @@
 // Lines that do steps of the current job.
-use super::bounds::Part;
-use super::bounds::min;
-use super::bounds::part_of;
 use super::changes;
 use super::desk;
 use super::desk::Desk;
 use super::printing;
+use fields::bounds::Part;
+use fields::bounds::min;
+use fields::bounds::part_of;
 use jobs::Did;
 use jobs::Job;
 use jobs::Next;
 use jobs::Ran;
 use rules::Step;
 use script::Steps;
-use script::words;
+use tokens::words;
 
 pub fn carry_out(desk: Desk, room: &mut [u8], asked: Steps, line: &[u8]) -> Desk {
     if !desk.busy {
@@ -127,7 +127,7 @@ fn last_of(line: &[u8], end: usize) -> Last {
     let part = &line[0..n];
     let from = words::last_word_start(part);
     let mut last = Last {
-        number: script::last_number(part),
+        number: tokens::last_number(part),
         before: 0,
     };
     if 0 < from {

@@ -25,9 +25,9 @@ use Rattle.rules.proofs.Table.Standing.{length-entries}
 use Rattle.rules.proofs.Pointers.PointerHeader.{places-fit}
 use Rattle.walks.specs.Entries.{most-entries}
 use Rattle.places.proofs.Values.{length-places}
-use Rattle.places.proofs.BootOrder.{order-fits}
-use Rattle.reading.specs.Inner.Located.{Located}
-use Rattle.reading.proofs.Opening.{located}
+use Rattle.boot_order.proofs.BootOrder.{order-fits}
+use Rattle.views.specs.Inner.Located.{Located}
+use Rattle.views.proofs.Opening.{located}
 use Rattle.text.specs.Put.{Put}
 use Rattle.text.proofs.Puts.{put-whole}
 use Rattle.text.specs.Shown.{digits, decimal, shown}

@@ -15,8 +15,8 @@ use Rattle.slots.specs.declared.Rows.{Rows}
 use Rattle.slots.proofs.RowsOf.{count-of-rows}
 use Rattle.places.specs.Inner.PlacesOf.{places-of, HasPlaces}
 use Rattle.places.specs.declared.Places.{Places}
-use Rattle.reading.specs.Inner.Located.{Located}
-use Rattle.reading.proofs.Opening.{has-entries, has-pointers}
+use Rattle.views.specs.Inner.Located.{Located}
+use Rattle.views.proofs.Opening.{has-entries, has-pointers}
 use Rattle.report.proofs.Fits.{order-few}
 
 module _ {img : List ℕ} {v : View} (l : Located img v) {t p : List ℕ}

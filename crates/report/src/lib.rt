@@ -2,14 +2,14 @@
 mod dead; // the dead places
 
 use reading::Known;
-use reading::Viewed;
 use rules::Setting;
 use rules::SlotNo;
 use rules::View;
+use views::Viewed;
 ghost use mathlib.Core.Path.{_≡_};
 ghost use Prim.Native.Nat.{_≤_};
 ghost use lib.ListN.{length, take};
-ghost use Rattle.reading.specs.Inner.Located.{Located};
+ghost use Rattle.views.specs.Inner.Located.{Located};
 ghost use Rattle.text.specs.Put.{Put};
 ghost use Rattle.report.specs.Listing.{listing, listing-for, parts, refusal, numbered, slot-line, info-text};
 
@@ -46,7 +46,7 @@ pub fn listing_for(image: &[u8], setting: Setting, out: &mut [u8]) -> usize
     ensures told { λ r. ⌜ Put (now (out .entry)) 0 (listing-for setting (now (image .entry))) (now (out .exit)) r ⌝ }
     ensures inside { λ r. ⌜ (r ≤ length (now (out .exit))) × (r ≡ length (take r (now (out .exit)))) ⌝ }
 {
-    let seen = reading::view(image, setting);
+    let seen = views::view(image, setting);
     match seen {
         Viewed::Refused(why) => put_refusal(out, why.number),
         Viewed::At(v) => put_parts(image, setting, v, out),
@@ -63,7 +63,7 @@ fn put_parts(image: &[u8], setting: Setting, v: View, out: &mut [u8]) -> usize
     let rows = slots::rows_of(t);
     let places = places::places_of(p);
     let mut row = [0u32; 127];
-    let count = places::order::write_order(t, rows, p, places, &mut row);
+    let count = boot_order::write_order(t, rows, p, places, &mut row);
     let mut end = text::put_bytes(out, 0, b"order slot name start length\n");
     end = put_lines(image, setting, &row, count, out, end);
     dead::put_dead(t, rows, p, places, out, end)

@@ -11,7 +11,7 @@ use Rattle.rules.specs.Lists.{same}
 use Rattle.rules.specs.declared.SlotNo.{SlotNo}
 use Rattle.rules.proofs.Lists.Tests.{by-cases, clash, and-true, same-true, same-of}
 use Rattle.script.specs.Lines.{takes, takes-slot, slot-of}
-use Rattle.script.specs.declared.numbers.Row.{Row}
+use Rattle.tokens.specs.declared.numbers.Row.{Row}
 use Rattle.script.specs.declared.Line.{Line}
 
 -- a test that passes exactly for equal texts

@@ -1,10 +1,3 @@
-pub mod Decimal
 pub mod Examples
 pub mod Forms
-pub mod HexDigits
-pub mod HexRoundTrip
 pub mod LineForms
-pub mod Rows
-pub mod Sums
-pub mod Texts
-pub mod WordsOfLine

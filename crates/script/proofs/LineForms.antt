@@ -5,8 +5,8 @@ use Prim.Native.Nat.{ℕ, _<_}
 use native.Mathlib.Omega.{arith}
 use lib.ListN.{length, getD}
 use borrow.Author.Tests.{eq-eqb, ne-eqb}
-use Rattle.script.specs.Words.{first-word, later-words}
-use Rattle.script.specs.Numbers.{numbers, numbers-before-bytes}
+use Rattle.tokens.specs.Words.{first-word, later-words}
+use Rattle.tokens.specs.Numbers.{numbers, numbers-before-bytes}
 use Rattle.script.specs.Lines.{said, line-of}
 use Rattle.script.specs.declared.Line.the-variants.{Nothing}
 

@@ -9,9 +9,9 @@ use Rattle.rules.specs.Lists.{same}
 use Rattle.rules.specs.declared.SlotNo.{SlotNo}
 use Rattle.commands.specs.declared.Command.the-variants.{Enable, Disable, Rename, Create, Delete, Repair}
 use Rattle.script.specs.Text.{ascii}
-use Rattle.script.specs.Words.{first-word, later-words}
-use Rattle.script.specs.Numbers.{numbers, numbers-before-bytes}
-use Rattle.script.specs.declared.numbers.Row.{Row}
+use Rattle.tokens.specs.Words.{first-word, later-words}
+use Rattle.tokens.specs.Numbers.{numbers, numbers-before-bytes}
+use Rattle.tokens.specs.declared.numbers.Row.{Row}
 use Rattle.script.specs.declared.Line.{Line}
 use Rattle.script.specs.declared.Line.the-variants.{Nothing, Change, Question, Command, Named, Steps, Error}
 use Rattle.script.specs.declared.Change.the-variants.{Image, Length, Setting, Put, Copy}

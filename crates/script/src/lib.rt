@@ -1,16 +1,11 @@
-// One line of a replay script, taken apart, and the parts of an answer, put into a lent buffer.
-pub mod words; // where words begin and end
-mod numbers; // decimal numbers in them
+// One line of a replay script: what it does.
 mod lines; // the forms of a line
-pub mod hex; // bytes as pairs of hexadecimal digits
-pub mod answers; // parts of an answer
-pub mod sum; // a sum of bytes
 
 use commands::Command;
 use rules::SlotNo;
+use tokens::numbers;
+use tokens::words;
 ghost use mathlib.Core.Path.{_≡_};
-ghost use Rattle.script.specs.Words.{last-word};
-ghost use Rattle.script.specs.Numbers.{value};
 ghost use Rattle.script.specs.Lines.{line-of};
 
 // What a line does. A number is as it is written; whether it suits the image is judged elsewhere. `Command`: with an
@@ -69,19 +64,4 @@ pub fn line_of(line: &[u8]) -> Line
     said = lines::question_line(verb, row, said);
     said = lines::command_line(verb, row, hexed, said);
     lines::steps_line(verb, row, said)
-}
-
-// What stands after the last space of a line.
-pub fn last_word(line: &[u8]) -> &[u8]
-    ensures { λ r. ⌜ now r ≡ last-word (now (line .entry)) ⌝ }
-{
-    let from = words::last_word_start(line);
-    &line[from..]
-}
-
-// The number that it is, or 0.
-pub fn last_number(line: &[u8]) -> usize
-    ensures { λ r. ⌜ r ≡ value (last-word (now (line .entry))) ⌝ }
-{
-    numbers::value_of(last_word(line))
 }

@@ -11,7 +11,7 @@ use Rattle.rules.specs.Table.{name-right, names-differ, range-aligned, range-in
 use Rattle.rules.specs.Table.{six-named, boot-info-at-0, tables-as-told, blocks-on-granules}
 use Rattle.rules.specs.Table.{boot-info-right, table-as-told, block-on-granules}
 use Rattle.table.specs.Inner.Six.{six-fault}
-use Rattle.table.proofs.FirstBroken.{all-by-number, pairs-by-number, not-kept}
+use Rattle.entry_rules.proofs.FirstBroken.{all-by-number, pairs-by-number, not-kept}
 
 -- ---- rules 1 and 2
 

@@ -1,4 +1,1 @@
-pub mod Ascending
-pub mod Padding
-pub mod Rules
 pub mod Six

@@ -1,9 +1,9 @@
 // The first broken rule of a table copy, and the entry that breaks it. Asked only where no copy stands.
-use super::Rule;
-use super::each;
-use super::naming;
-use super::ranges;
 use super::six;
+use entry_rules::Rule;
+use entry_rules::each;
+use entry_rules::naming;
+use entry_rules::ranges;
 use rules::EntryNo;
 use rules::Fault;
 use rules::NO_FAULT;

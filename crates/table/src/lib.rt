@@ -1,5 +1,9 @@
 // One copy of the sub-partition table: the eleven rules by which it stands, a function for each, and the first of them
 // that it breaks.
+use entry_rules::Rule;
+use entry_rules::each;
+use entry_rules::naming;
+use entry_rules::ranges;
 use rules::EntryNo;
 use rules::Fault;
 use rules::Setting;
@@ -10,36 +14,13 @@ ghost use Rattle.rules.specs.Bytes.{block, block-size};
 ghost use Rattle.rules.specs.Table.{rows, magic-right, header-right, count-right, entries-stand, table-stands, fault};
 ghost use Rattle.walks.specs.Entries.{HasEntries};
 
-mod each;
-mod faults;
-mod naming;
-mod ranges;
-mod six;
+mod faults; // the first rule that a copy breaks
+mod six; // rules 8 to 11
 
 // What bytes 0-3 and 4-7 of a table hold.
 const MAGIC: u64 = 0x57713427;
 
 const VERSION: u64 = 0;
-
-// What a rule asks of one entry: 3, 5 and 6 of the eleven, the last with the image length; of an entry with one of the
-// six names 9, 10 with the two addresses told and 11 with the granule; and that the name is padded with zeros, by which
-// rule 4 is judged faster.
-pub enum Rule {
-    NameRight,
-    NamePadded,
-    RangeAligned,
-    RangeInside(u64),
-    BootInfoRight,
-    TableAsTold(u64, u64),
-    BlockOnGranules(u64),
-}
-
-// A rule that each two counted entries keep: 4 and 7 of the eleven, and 4 of padded names.
-pub enum PairRule {
-    NamesDiffer,
-    FieldsDiffer,
-    RangesApart,
-}
 
 // The entry numbers of BOOT_INFO, FACTORY_IMAGE, SPT0, SPT1, CPB0 and CPB1.
 pub struct SixEntries {

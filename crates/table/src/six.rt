@@ -1,15 +1,14 @@
 // Rules 8 to 11: the six entries of fixed names. Each is looked up once, and judged by its entry number.
 use super::SixEntries;
-use rules::EntryNo;
+use entry_rules::named;
 use rules::Setting;
 ghost use mathlib.Core.Path.{_≡_};
 ghost use mathlib.Core.Bool.{_&&_};
 ghost use Prim.Native.Nat.{_<_};
 ghost use lib.Dec.{eqb};
 ghost use lib.ListN.{length};
-ghost use Rattle.rules.specs.Bytes.{block-size, up-to-zero};
-ghost use Rattle.rules.specs.Numbers.{setting};
-ghost use Rattle.rules.specs.Table.{rows, on-granules, if-named, starts-at, table-as-told, block-on-granules};
+ghost use Rattle.rules.specs.Bytes.{block-size};
+ghost use Rattle.rules.specs.Table.{rows, on-granules};
 ghost use Rattle.walks.specs.Entries.{entry-at, most-entries, HasEntries};
 ghost use Rattle.table.specs.Inner.Six.{Found, Below, below, six-right};
 
@@ -87,44 +86,8 @@ pub fn blocks_are_on_granules(table: &[u8], six: SixEntries, granule: u64) -> bo
         && on-granules granule (entry-at (now (table .entry)) (six .pointers0 .0))
         && on-granules granule (entry-at (now (table .entry)) (six .pointers1 .0)) ⌝ }
 {
-    is_on_granules(table, six.table0, granule)
-        & is_on_granules(table, six.table1, granule)
-        & is_on_granules(table, six.pointers0, granule)
-        & is_on_granules(table, six.pointers1, granule)
-}
-
-// The entry starts at a multiple of the granule and is at least one granule long.
-fn is_on_granules(table: &[u8], e: EntryNo, granule: u64) -> bool
-    requires { ⌜ ((length (now table) ≡ block-size) × (e .0 < most-entries)) × (0 < granule) ⌝ }
-    ensures { λ r. ⌜ r ≡ on-granules granule (entry-at (now (table .entry)) (e .0)) ⌝ }
-{
-    (entries::entry_start(table, e) % granule == 0) & (granule <= entries::entry_size(table, e))
-}
-
-// What rules 9 and 10 ask of one entry: it starts at an address, if it has that name.
-pub fn starts_if_named(table: &[u8], e: EntryNo, wanted: &[u8], at: u64) -> bool
-    requires { ⌜ (length (now table) ≡ block-size) × (e .0 < most-entries) ⌝ }
-    ensures { λ r. ⌜ r
-        ≡ if-named (up-to-zero (now (wanted .entry))) (starts-at at) (entry-at (now (table .entry)) (e .0)) ⌝ }
-{
-    !entries::has_name(table, e, wanted) | (entries::entry_start(table, e) == at)
-}
-
-pub fn table_is_as_told(table: &[u8], e: EntryNo, spt0: u64, spt1: u64) -> bool
-    requires { ⌜ (length (now table) ≡ block-size) × (e .0 < most-entries) ⌝ }
-    ensures { λ r. ⌜ r ≡ table-as-told (setting 0 spt0 spt1) (entry-at (now (table .entry)) (e .0)) ⌝ }
-{
-    starts_if_named(table, e, &names::SPT0, spt0) & starts_if_named(table, e, &names::SPT1, spt1)
-}
-
-// What rule 11 asks of one entry.
-pub fn block_is_on_granules(table: &[u8], e: EntryNo, granule: u64) -> bool
-    requires { ⌜ ((length (now table) ≡ block-size) × (e .0 < most-entries)) × (0 < granule) ⌝ }
-    ensures { λ r. ⌜ r ≡ block-on-granules (setting granule 0 0) (entry-at (now (table .entry)) (e .0)) ⌝ }
-{
-    let fits = is_on_granules(table, e, granule);
-    (!entries::has_name(table, e, &names::SPT0) | fits)
-        & (!entries::has_name(table, e, &names::SPT1) | fits)
-        & (!entries::has_name(table, e, &names::CPB0) | fits)
-        & (!entries::has_name(table, e, &names::CPB1) | fits)
+    named::is_on_granules(table, six.table0, granule)
+        & named::is_on_granules(table, six.table1, granule)
+        & named::is_on_granules(table, six.pointers0, granule)
+        & named::is_on_granules(table, six.pointers1, granule)
 }

@@ -1,6 +1,6 @@
 -- `pairs_agree` tells whether both pairs agree: with a view, by their bytes alone. Assumes nothing.
-use Rattle.commands.specs.Inner.Asked.{copies-equal}
-use Rattle.reading.proofs.Opening.{was-viewed, was-refused, opened}
+use Rattle.drafts.specs.Inner.Asked.{copies-equal}
+use Rattle.views.proofs.Opening.{was-viewed, was-refused, opened}
 use Rattle.book.proofs.ReadBack.{none-agree, agree-by-copies}
 use borrow.Author.Needs.{needs}
 use Rattle.book.proofs.pairs_agree.Statement.{statement}

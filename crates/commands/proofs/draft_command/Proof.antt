@@ -2,8 +2,8 @@
 use mathlib.Core.Path.{refl}
 use borrow.Author.Needs.{needs}
 use Rattle.rules.specs.Answers.{_>>=_}
-use Rattle.reading.proofs.Opening.{was-viewed, was-refused}
-use Rattle.commands.specs.Inner.Drafted.{drafted, Sound}
+use Rattle.views.proofs.Opening.{was-viewed, was-refused}
+use Rattle.drafts.specs.Inner.Drafted.{drafted, Sound}
 use Rattle.commands.proofs.draft_command.Statement.{statement}
 use Rattle.commands.proofs.draft_command.Tie as tie
 

@@ -7,7 +7,7 @@ use borrow.Author.Needs.{needs}
 use Rattle.rules.specs.Answers.{numbered}
 use Rattle.rules.proofs.Lists.Tests.{and-true}
 use Rattle.jobs.specs.Jobs.{lent, steps-of}
-use Rattle.jobs.specs.Inner.Parts.{chosen}
+use Rattle.part_steps.specs.Inner.Windows.{chosen}
 use Rattle.jobs.specs.declared.Job.{Job}
 use Rattle.jobs.proofs.Running.{Arrays, one-fails, both-hold, stays, goes, finished-11, outside-12, inside-given}
 use Rattle.jobs.proofs.run_in_place.Statement.{statement}

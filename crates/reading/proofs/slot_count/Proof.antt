@@ -4,7 +4,7 @@ use Rattle.rules.specs.Answers.{_>>=_}
 use Rattle.rules.specs.Table.{entries}
 use Rattle.rules.specs.Readers.{slot-count}
 use Rattle.reading.specs.Answers.{counted}
-use Rattle.reading.proofs.Opening.{was-viewed, was-refused, opened, has-entries}
+use Rattle.views.proofs.Opening.{was-viewed, was-refused, opened, has-entries}
 use Rattle.reading.proofs.slot_count.Statement.{statement}
 use Rattle.reading.proofs.slot_count.Tie as tie
 

@@ -7,7 +7,7 @@ use Rattle.rules.specs.Lists.{keep}
 use Rattle.rules.specs.Bytes.{little-endian, field}
 use Rattle.rules.specs.Table.{entries-from, entry-count, entries, slots}
 use Rattle.rules.specs.Readers.{slot-there, name-in, slot-name}
-use Rattle.reading.proofs.Opening.{no-table, table-of-view, opened, has-entries}
+use Rattle.views.proofs.Opening.{no-table, table-of-view, opened, has-entries}
 use Rattle.reading.proofs.slot_name.Statement.{statement}
 use Rattle.reading.proofs.slot_name.Tie as tie
 

@@ -1,7 +1,7 @@
 -- `reading::table_read` is the part of the image that the view names, or an empty part. Assumes nothing.
 use mathlib.Core.Path.{sym, _∙_}
 use borrow.Author.Needs.{needs}
-use Rattle.reading.proofs.Opening.{no-table, table-of-view, opened}
+use Rattle.views.proofs.Opening.{no-table, table-of-view, opened}
 use Rattle.reading.proofs.table_read.Statement.{statement}
 use Rattle.reading.proofs.table_read.Tie as tie
 

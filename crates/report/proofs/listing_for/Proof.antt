@@ -1,5 +1,5 @@
 -- `listing_for` puts the line of a refusal, or the two parts by where things are. Assumes nothing.
-use Rattle.reading.proofs.Opening.{was-viewed, was-refused, opened}
+use Rattle.views.proofs.Opening.{was-viewed, was-refused, opened}
 use Rattle.report.specs.Listing.{listing-by, listing-for}
 use Rattle.report.proofs.Lines.{with-inside}
 use borrow.Author.Needs.{needs}

@@ -3,7 +3,7 @@ use mathlib.Core.Path.{refl}
 use lib.ListN.{replicate}
 use Rattle.rules.specs.Copies.{boot-order}
 use Rattle.walks.specs.Entries.{most-entries}
-use Rattle.reading.proofs.Opening.{has-entries, has-pointers}
+use Rattle.views.proofs.Opening.{has-entries, has-pointers}
 use Rattle.text.proofs.Puts.{then}
 use Rattle.report.specs.Listing.{header, parts}
 use Rattle.report.proofs.Read.{walked, order-has-room, written-order}

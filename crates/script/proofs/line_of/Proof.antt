@@ -3,7 +3,7 @@ use mathlib.Core.Path.{sym}
 use native.Mathlib.Omega.{arith}
 use lib.Seq.{length-take-le}
 use Rattle.script.specs.Lines.{said}
-use Rattle.script.proofs.WordsOfLine.{first-taken}
+use Rattle.tokens.proofs.WordsOfLine.{first-taken}
 use Rattle.script.proofs.LineForms.{empty-line, remark, said-line}
 use borrow.Author.Needs.{needs}
 use Rattle.script.proofs.line_of.Statement.{statement}

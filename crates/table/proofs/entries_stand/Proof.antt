@@ -1,8 +1,8 @@
 -- `table::entries_stand` meets its contract: six tests are the definition's rules 3 to 11. Assumes nothing.
 use borrow.Author.Needs.{needs}
 use Rattle.rules.specs.Table.{rows, name-right, names-differ, range-aligned, range-inside, ranges-apart}
-use Rattle.table.specs.Inner.Rules.{keeps}
-use Rattle.table.proofs.FirstBroken.{all-by-number, pairs-by-number}
+use Rattle.entry_rules.specs.Inner.Rules.{keeps}
+use Rattle.entry_rules.proofs.FirstBroken.{all-by-number, pairs-by-number}
 use Rattle.table.proofs.Standing.{rules-3-to-11}
 use Rattle.table.proofs.entries_stand.Statement.{statement}
 use Rattle.table.proofs.entries_stand.Tie as tie

@@ -5,9 +5,9 @@ use Rattle.rules.specs.Table.{entries}
 use Rattle.rules.specs.Copies.{view}
 use Rattle.rules.specs.Commands.{created-start}
 use Rattle.rules.specs.Book.{start-by, start-for}
-use Rattle.reading.specs.Inner.Located.{Located}
-use Rattle.reading.proofs.Opening.{has-entries, has-pointers, was-viewed, was-refused, opened}
-use Rattle.commands.proofs.NewAsked.{placed}
+use Rattle.views.specs.Inner.Located.{Located}
+use Rattle.views.proofs.Opening.{has-entries, has-pointers, was-viewed, was-refused, opened}
+use Rattle.table_commands.proofs.NewAsked.{placed}
 use borrow.Author.Needs.{needs}
 use Rattle.book.proofs.parts.start_for.Statement.{statement}
 use Rattle.book.proofs.parts.start_for.Tie as tie

@@ -6,12 +6,12 @@ use borrow.Author.Needs.{needs}
 use Rattle.rules.specs.Commands.{repair, repair-steps, job}
 use Rattle.jobs.specs.declared.Plan.{Plan}
 use Rattle.blocks.specs.Made.{rewrites}
-use Rattle.reading.specs.Inner.Located.{Located}
-use Rattle.reading.proofs.Opening.{located}
-use Rattle.commands.specs.JobFor.{repaired, repair-job, job-for}
-use Rattle.commands.specs.Inner.Drafted.{drafted, Sound}
-use Rattle.commands.proofs.Drafting.{drafts-job}
-use Rattle.commands.proofs.EqualCopies.{either-within}
+use Rattle.views.specs.Inner.Located.{Located}
+use Rattle.views.proofs.Opening.{located}
+use Rattle.drafts.specs.JobFor.{repaired, repair-job, job-for}
+use Rattle.drafts.specs.Inner.Drafted.{drafted, Sound}
+use Rattle.drafts.proofs.Drafting.{drafts-job}
+use Rattle.drafts.proofs.EqualCopies.{either-within}
 use Rattle.commands.proofs.pairs.repair_by.Statement.{statement}
 use Rattle.commands.proofs.pairs.repair_by.Tie as tie
 

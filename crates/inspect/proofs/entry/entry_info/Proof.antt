@@ -5,7 +5,7 @@ use Rattle.rules.specs.Answers.{_>>=_}
 use Rattle.rules.specs.Bytes.{block}
 use Rattle.rules.specs.Table.{entries}
 use Rattle.reading.specs.Answers.{known}
-use Rattle.reading.proofs.Opening.{was-viewed, was-refused, opened, has-entries}
+use Rattle.views.proofs.Opening.{was-viewed, was-refused, opened, has-entries}
 use Rattle.inspect.specs.Entries.{info-in, entry-info}
 use Rattle.inspect.proofs.entry.entry_info.Statement.{statement}
 use Rattle.inspect.proofs.entry.entry_info.Tie as tie

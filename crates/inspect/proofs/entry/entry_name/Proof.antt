@@ -1,7 +1,7 @@
 -- `inspect::entry::entry_name` is the name by the table read, or an empty part. Assumes nothing.
 use mathlib.Core.Path.{refl, sym, _∙_}
 use borrow.Author.Needs.{needs}
-use Rattle.reading.proofs.Opening.{opened, table-of-view, no-table, has-entries}
+use Rattle.views.proofs.Opening.{opened, table-of-view, no-table, has-entries}
 use Rattle.inspect.specs.Entries.{entry-name}
 use Rattle.inspect.proofs.EntryNames.{no-entry-name}
 use Rattle.inspect.proofs.entry.entry_name.Statement.{statement}

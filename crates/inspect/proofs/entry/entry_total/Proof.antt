@@ -3,7 +3,7 @@ use borrow.Author.Needs.{needs}
 use Rattle.rules.specs.Answers.{_>>=_}
 use Rattle.rules.specs.Bytes.{block}
 use Rattle.rules.specs.Table.{entry-count}
-use Rattle.reading.proofs.Opening.{was-viewed, was-refused, opened}
+use Rattle.views.proofs.Opening.{was-viewed, was-refused, opened}
 use Rattle.inspect.specs.Totals.{totalled}
 use Rattle.inspect.specs.Entries.{entry-total}
 use Rattle.inspect.proofs.entry.entry_total.Statement.{statement}

@@ -1,7 +1,7 @@
 -- `inspect::four_blocks::condition_by` judges the four blocks and compares the pairs. Assumes nothing.
 use Rattle.rules.specs.Copies.{tables-agree, pointers-agree, pair-agrees}
-use Rattle.reading.proofs.Seen.{seen}
-use Rattle.reading.proofs.Opening.{located, granule-positive}
+use Rattle.views.proofs.Seen.{seen}
+use Rattle.views.proofs.Opening.{located, granule-positive}
 use Rattle.inspect.specs.Condition.{condition-by}
 use Rattle.inspect.proofs.four_blocks.condition_by.Statement.{statement}
 use Rattle.inspect.proofs.four_blocks.condition_by.Tie as tie

@@ -1,6 +1,6 @@
 -- `inspect::four_blocks::condition_of` tells the condition by the view, or refuses as the view does. Assumes nothing.
 use Rattle.rules.specs.Answers.{_>>=_}
-use Rattle.reading.proofs.Opening.{was-viewed, was-refused}
+use Rattle.views.proofs.Opening.{was-viewed, was-refused}
 use Rattle.inspect.specs.Condition.{condition-by, condition, inspected}
 use borrow.Author.Needs.{needs}
 use Rattle.inspect.proofs.four_blocks.condition_of.Statement.{statement}

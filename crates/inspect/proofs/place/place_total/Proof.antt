@@ -4,7 +4,7 @@ use Rattle.rules.specs.Answers.{_>>=_}
 use Rattle.rules.specs.Bytes.{block}
 use Rattle.rules.specs.Pointers.{place-count}
 use Rattle.places.specs.Inner.PlacesOf.{places-of}
-use Rattle.reading.proofs.Opening.{was-viewed, was-refused, opened, has-pointers}
+use Rattle.views.proofs.Opening.{was-viewed, was-refused, opened, has-pointers}
 use Rattle.inspect.specs.Totals.{totalled}
 use Rattle.inspect.specs.Places.{place-total}
 use Rattle.inspect.proofs.place.place_total.Statement.{statement}

@@ -5,7 +5,8 @@ use lib.Seq.{drop-nil, take-nil}
 use borrow.Author.Needs.{needs}
 use Rattle.rules.specs.Steps.{steps}
 use Rattle.jobs.specs.Jobs.{part}
-use Rattle.jobs.specs.Inner.Parts.{chosen, part-inside}
+use Rattle.part_steps.specs.Inner.Windows.{chosen}
+use Rattle.jobs.specs.Inner.Parts.{part-inside}
 use Rattle.jobs.proofs.parts.do_part.Statement.{statement}
 use Rattle.jobs.proofs.parts.do_part.Tie as tie
 

@@ -1,7 +1,7 @@
 -- `do_steps` does the listed steps that are in a window. Assumes nothing.
 use lib.ListN.{length}
 use borrow.Author.Needs.{needs}
-use Rattle.jobs.specs.Inner.Parts.{beyond}
+use Rattle.part_steps.specs.Inner.Windows.{beyond}
 use Rattle.jobs.proofs.ListedSteps.{listed-parts, listed-done}
 use Rattle.jobs.proofs.parts.do_steps.Statement.{statement}
 use Rattle.jobs.proofs.parts.do_steps.Tie as tie

@@ -2,8 +2,8 @@
 use mathlib.Core.Path.{sym, ap, _∙_}
 use borrow.Author.Needs.{needs}
 use Rattle.inspect.specs.Condition.{inspected}
-use Rattle.linked.specs.Inspected.{bit}
-use Rattle.linked.proofs.Numbered.{number-refused, kept-refused, number-given, kept-given}
+use Rattle.codes.specs.Judged.{bit}
+use Rattle.codes.proofs.Numbered.{number-refused, kept-refused, number-given, kept-given}
 use Rattle.linked.proofs.inspects.delunkpawi_copies.Statement.{statement}
 use Rattle.linked.proofs.inspects.delunkpawi_copies.Tie as tie
 
@@ -35,28 +35,23 @@ returns c =
 returns-2 : tie.Need-returns-2
 unfolding inspected
 returns-2 c =
-    let at6 = c in
-    let at5 = at6 .before in
-    let at4 = at5 .before in
-    let at3 = at4 .before in
-    let at2 = at3 .before in
-    let at1 = at2 .before in
-    let told = at1 .before .before in
+    let told = c .before .before in
     let called = told .before .before in
+    let bits = c .bits-of .ensures in
     let a = called .before .before .args in
     let e = sym (ap inspected (told .inspected2 .given .1)) ∙ called .condition-of .ensures in (
       number-given e,
       (
-        at1 .bit .ensures ∙ kept-given (λ k. bit (k .spt0)) (a .table0 .now) e,
+        bits .0 ∙ kept-given (λ k. bit (k .spt0)) (a .table0 .now) e,
         (
-          at2 .bit2 .ensures ∙ kept-given (λ k. bit (k .spt1)) (a .table1 .now) e,
+          bits .1 .0 ∙ kept-given (λ k. bit (k .spt1)) (a .table1 .now) e,
           (
-            at3 .bit3 .ensures ∙ kept-given (λ k. bit (k .cpb0)) (a .pointers0 .now) e,
+            bits .1 .1 .0 ∙ kept-given (λ k. bit (k .cpb0)) (a .pointers0 .now) e,
             (
-              at4 .bit4 .ensures ∙ kept-given (λ k. bit (k .cpb1)) (a .pointers1 .now) e,
+              bits .1 .1 .1 .0 ∙ kept-given (λ k. bit (k .cpb1)) (a .pointers1 .now) e,
               (
-                at5 .bit5 .ensures ∙ kept-given (λ k. bit (k .tables)) (a .tables .now) e,
-                at6 .bit6 .ensures ∙ kept-given (λ k. bit (k .pointers)) (a .pointers .now) e,
+                bits .1 .1 .1 .1 .0 ∙ kept-given (λ k. bit (k .tables)) (a .tables .now) e,
+                bits .1 .1 .1 .1 .1 ∙ kept-given (λ k. bit (k .pointers)) (a .pointers .now) e,
               ),
             ),
           ),
@@ -71,11 +66,6 @@ delunkpawi-copies-spec =
     (λ c κs. search needs)
     (λ c. search needs)
     (λ c. search needs)
-    (λ c κs. search needs)
-    (λ c κs. search needs)
-    (λ c κs. search needs)
-    (λ c κs. search needs)
-    (λ c κs. search needs)
     (λ c κs. search needs)
     returns
     returns-2)

@@ -1,53 +1,63 @@
 -- `delunkpawi_entry` answers with an entry and its name, if that fits. Assumes nothing.
 use mathlib.Core.Path.{sym, ap, _∙_}
+use mathlib.Core.List.{List}
+use Prim.Native.Nat.{ℕ}
 use lib.ListN.{length}
 use borrow.Author.Needs.{needs}
+use borrow.Author.Tests.{leb-true}
 use Rattle.rules.specs.Answers.{given}
 use Rattle.rules.specs.Numbers.{setting}
 use Rattle.rules.specs.Readers.{row-after}
+use Rattle.rules.specs.declared.SlotInfo.{SlotInfo}
 use Rattle.reading.specs.Answers.{known}
-use Rattle.linked.proofs.Numbered.{number-given, kept-given}
+use Rattle.inspect.specs.Entries.{entry-info, entry-name}
+use Rattle.codes.specs.Inner.Fitting.{fitting}
+use Rattle.codes.proofs.Numbered.{number-given, kept-given}
+use Rattle.codes.proofs.Fits.{fits-refused, fits-given}
+use Rattle.linked.specs.Inspected.{NamedEntry, named-entry}
 use Rattle.linked.proofs.Named.{put-front}
-use Rattle.linked.proofs.NamedEntries.{entry-refused, entry-name-too-long, entry-given, entry-kept, name-put}
+use Rattle.linked.proofs.NamedEntries.{entry-kept, name-put}
 use Rattle.linked.proofs.inspects.delunkpawi_entry.Statement.{statement}
 use Rattle.linked.proofs.inspects.delunkpawi_entry.Tie as tie
 
+unfoldable with-name : List ℕ → SlotInfo → NamedEntry
+with-name it f = record { name = it; info = f }
+
 returns : tie.Need-returns
-unfolding known
+unfolding known named-entry with-name
 returns c =
-    let named = c .before in
-    let told = named .before .before in
-    let called = told .before .before in
-    let a = called .before .before .before .args in
-    let s = setting (a .granule) (a .spt0) (a .spt1) in
-    let f = sym (ap known (told .known2 .given .1)) ∙ called .entry-info .ensures in
-    let e = entry-name-too-long s (a .image .now) (a .entry) (length (a .name .now)) f
-    (rw (← named .entry-name .ensures) (c .if1 .taken)) in
-    entry-kept (a .name .now) (a .count .now) (a .start .now) (a .size .now) (a .flags .now) e
+    let at-fitting = c .before .before .before in
+    let at-info = at-fitting .before in
+    let named = at-info .before in
+    let a = named .before .before .before .args in
+    let info = entry-info (setting (a .granule) (a .spt0) (a .spt1)) (a .image .now) (a .entry) in
+    let it = entry-name (setting (a .granule) (a .spt0) (a .spt1)) (a .image .now) (a .entry) in
+    let room = length (a .name .now) in
+    let e = sym (ap known (c .before .fitting2 .given .1))
+    ∙ at-fitting .fitting .ensures
+    ∙ ap (λ x. fitting x (length (named .entry-name .result .now)) room) (at-info .entry-info .ensures)
+    ∙ ap (λ x. fitting info (length x) room) (named .entry-name .ensures) in
+    entry-kept (a .name .now) (a .count .now) (a .start .now) (a .size .now) (a .flags .now)
+    (fits-refused (with-name it) info (length it) room e)
 
 returns-2 : tie.Need-returns-2
-unfolding known
+unfolding known named-entry with-name
 returns-2 c =
-    let called = c .before .before .before in
-    let a = called .before .before .before .args in
-    let s = setting (a .granule) (a .spt0) (a .spt1) in
-    let e = entry-refused s (a .image .now) (a .entry) (length (a .name .now))
-    (sym (ap known (c .before .known .given .1)) ∙ called .entry-info .ensures) in
-    entry-kept (a .name .now) (a .count .now) (a .start .now) (a .size .now) (a .flags .now) e
-
-returns-3 : tie.Need-returns-3
-unfolding known
-returns-3 c =
-    let passed = c .before .before .before .before in
-    let named = passed .before in
-    let told = named .before .before in
-    let called = told .before .before in
-    let a = called .before .before .before .args in
-    let s = setting (a .granule) (a .spt0) (a .spt1) in
-    let f = sym (ap known (told .known2 .given .1)) ∙ called .entry-info .ensures in
+    let told = c .before .before .before .before .before in
+    let at-fitting = told .before .before in
+    let at-info = at-fitting .before in
+    let named = at-info .before in
+    let a = named .before .before .before .args in
+    let info = entry-info (setting (a .granule) (a .spt0) (a .spt1)) (a .image .now) (a .entry) in
+    let it = entry-name (setting (a .granule) (a .spt0) (a .spt1)) (a .image .now) (a .entry) in
+    let room = length (a .name .now) in
     let found = named .entry-name .ensures in
-    let e = entry-given s (a .image .now) (a .entry) (length (a .name .now)) f (rw (← found) (passed .if1 .left)) in
-    let put = put-front (c .before .before .put-bytes .ensures) (passed .if1 .left)
+    let (fits, e) = fits-given (with-name it) info (length it) room
+    (sym (ap known (told .fitting3 .given .1))
+    ∙ at-fitting .fitting .ensures
+    ∙ ap (λ x. fitting x (length (named .entry-name .result .now)) room) (at-info .entry-info .ensures)
+    ∙ ap (λ x. fitting info (length x) room) found) in
+    let put = put-front (c .before .before .put-bytes .ensures) (rw found (leb-true (length it) room fits))
     ∙ ap (λ x. row-after (given x) (a .name .now)) found in (
       number-given e,
       (
@@ -70,11 +80,11 @@ delunkpawi-entry-spec =
     tie.close
     (tie.spec
     (λ c κs. search needs)
+    (λ c κs. search needs)
+    (λ c κs. search needs)
     (λ c. search needs)
     (λ c. search needs)
     (λ c κs. search needs)
     returns
-    (λ c κs. search needs)
-    returns-2
     (λ c. search needs)
-    returns-3)
+    returns-2)

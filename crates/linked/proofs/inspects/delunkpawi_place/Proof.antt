@@ -2,8 +2,8 @@
 use mathlib.Core.Path.{sym, ap, _∙_}
 use borrow.Author.Needs.{needs}
 use Rattle.inspect.specs.Places.{holding}
-use Rattle.linked.specs.Inspected.{place-kind, place-slot}
-use Rattle.linked.proofs.Numbered.{number-refused, kept-refused, number-given, kept-given}
+use Rattle.codes.specs.Judged.{place-kind, place-slot}
+use Rattle.codes.proofs.Numbered.{number-refused, kept-refused, number-given, kept-given}
 use Rattle.linked.proofs.inspects.delunkpawi_place.Statement.{statement}
 use Rattle.linked.proofs.inspects.delunkpawi_place.Tie as tie
 
@@ -26,15 +26,15 @@ returns c =
 returns-2 : tie.Need-returns-2
 unfolding holding
 returns-2 c =
-    let told = c .before .before .before in
+    let told = c .before .before in
     let called = told .before .before in
     let a = called .before .before .args in
     let e = sym (ap holding (told .holding2 .given .1)) ∙ called .place-at .ensures in (
       number-given e,
       (
-        c .before .kind-of .ensures ∙ kept-given (λ h. place-kind (h .judgement)) (a .kind .now) e,
+        c .place-code .ensures .0 ∙ kept-given (λ h. place-kind (h .judgement)) (a .kind .now) e,
         (
-          c .slot-of .ensures ∙ kept-given (λ h. place-slot (h .judgement)) (a .slot .now) e,
+          c .place-code .ensures .1 ∙ kept-given (λ h. place-slot (h .judgement)) (a .slot .now) e,
           kept-given (λ h. h .value) (a .value .now) e,
         ),
       ),
@@ -47,7 +47,6 @@ delunkpawi-place-spec =
     (λ c κs. search needs)
     (λ c. search needs)
     (λ c. search needs)
-    (λ c κs. search needs)
     (λ c κs. search needs)
     returns
     returns-2)

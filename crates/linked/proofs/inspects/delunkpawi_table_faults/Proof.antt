@@ -1,8 +1,8 @@
 -- `delunkpawi_table_faults` answers with the faults of both table copies. Assumes nothing.
 use mathlib.Core.Path.{sym, ap, _∙_}
 use borrow.Author.Needs.{needs}
-use Rattle.reading.specs.Answers.{faulted}
-use Rattle.linked.proofs.Numbered.{number-refused, kept-refused, number-given, kept-given}
+use Rattle.views.specs.Answers.{faulted}
+use Rattle.codes.proofs.Numbered.{number-refused, kept-refused, number-given, kept-given}
 use Rattle.linked.proofs.inspects.delunkpawi_table_faults.Statement.{statement}
 use Rattle.linked.proofs.inspects.delunkpawi_table_faults.Tie as tie
 
@@ -28,7 +28,7 @@ returns c =
 returns-2 : tie.Need-returns-2
 unfolding faulted
 returns-2 c =
-    let told = c .before .before .before .before .before in
+    let told = c .before in
     let called = told .before .before in
     let a = called .before .before .args in
     let e = sym (ap faulted (told .faults2 .given .1)) ∙ called .table-faults .ensures in (

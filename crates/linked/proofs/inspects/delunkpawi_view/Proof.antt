@@ -1,8 +1,8 @@
 -- `delunkpawi_view` answers with where things are. Assumes nothing.
 use mathlib.Core.Path.{sym, ap, _∙_}
 use borrow.Author.Needs.{needs}
-use Rattle.reading.specs.Answers.{viewed}
-use Rattle.linked.proofs.Numbered.{number-refused, kept-refused, number-given, kept-given}
+use Rattle.views.specs.Answers.{viewed}
+use Rattle.codes.proofs.Numbered.{number-refused, kept-refused, number-given, kept-given}
 use Rattle.linked.proofs.inspects.delunkpawi_view.Statement.{statement}
 use Rattle.linked.proofs.inspects.delunkpawi_view.Tie as tie
 

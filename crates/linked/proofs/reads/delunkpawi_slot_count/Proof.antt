@@ -2,7 +2,7 @@
 use mathlib.Core.Path.{sym, ap, _∙_}
 use borrow.Author.Needs.{needs}
 use Rattle.reading.specs.Answers.{counted}
-use Rattle.linked.proofs.Numbered.{number-refused, kept-refused, number-given, kept-given}
+use Rattle.codes.proofs.Numbered.{number-refused, kept-refused, number-given, kept-given}
 use Rattle.linked.proofs.reads.delunkpawi_slot_count.Statement.{statement}
 use Rattle.linked.proofs.reads.delunkpawi_slot_count.Tie as tie
 

@@ -2,7 +2,7 @@
 use mathlib.Core.Path.{sym, ap, _∙_}
 use borrow.Author.Needs.{needs}
 use Rattle.reading.specs.Answers.{known}
-use Rattle.linked.proofs.Numbered.{number-refused, kept-refused, number-given, kept-given}
+use Rattle.codes.proofs.Numbered.{number-refused, kept-refused, number-given, kept-given}
 use Rattle.linked.proofs.reads.delunkpawi_slot_facts.Statement.{statement}
 use Rattle.linked.proofs.reads.delunkpawi_slot_facts.Tie as tie
 
@@ -24,8 +24,8 @@ returns c =
 returns-2 : tie.Need-returns-2
 unfolding known
 returns-2 c =
-    let a = c .before .before .before .before .before .before .args in
-    let e = sym (ap known (c .before .before .known2 .given .1)) ∙ c .before .before .before .before .slot-info .ensures in (
+    let a = c .before .before .before .before .before .args in
+    let e = sym (ap known (c .before .known2 .given .1)) ∙ c .before .before .before .slot-info .ensures in (
       number-given e,
       (
         kept-given (λ f. f .entry .0) (a .entry .now) e,

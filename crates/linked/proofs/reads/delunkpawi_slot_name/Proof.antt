@@ -2,50 +2,56 @@
 use mathlib.Core.Path.{sym, ap, _∙_}
 use lib.ListN.{length}
 use borrow.Author.Needs.{needs}
+use borrow.Author.Tests.{leb-true}
 use Rattle.rules.specs.Numbers.{setting}
-use Rattle.rules.specs.Readers.{row-after, slot-name}
+use Rattle.rules.specs.Readers.{row-after, slot-info, slot-name}
 use Rattle.rules.specs.Answers.{given}
 use Rattle.reading.specs.Answers.{known}
-use Rattle.linked.proofs.Numbered.{number-given, kept-given}
-use Rattle.linked.proofs.Named.{name-refused, name-too-long, name-given, put-front, written-refused}
+use Rattle.codes.specs.Inner.Fitting.{fitting}
+use Rattle.codes.proofs.Numbered.{number-given, kept-given}
+use Rattle.codes.proofs.Fits.{fits-refused, fits-given}
+use Rattle.linked.specs.Answered.{name-answer}
+use Rattle.linked.proofs.Named.{put-front, written-refused}
 use Rattle.linked.proofs.reads.delunkpawi_slot_name.Statement.{statement}
 use Rattle.linked.proofs.reads.delunkpawi_slot_name.Tie as tie
 
-enum-told : tie.Need-enum-told
-enum-told c = search needs
-
 returns : tie.Need-returns
-unfolding known
+unfolding known name-answer
 returns c =
-    let a = c .before .before .before .before .before .before .before .args in
-    let s = setting (a .granule) (a .spt0) (a .spt1) in
-    let f = sym (ap known (c .before .before .enum-told .given .1)) ∙ c .before .before .before .before .slot-info .ensures in
-    written-refused (a .name .now) (a .count .now)
-    (name-too-long s (a .image .now) (a .slot) (length (a .name .now)) f (rw (← c .before .slot-name .ensures) (c .if1 .taken)))
+    let at-fitting = c .before .before .before in
+    let at-info = at-fitting .before in
+    let named = at-info .before in
+    let a = named .before .before .before .args in
+    let info = slot-info (setting (a .granule) (a .spt0) (a .spt1)) (a .image .now) (a .slot) in
+    let it = slot-name (setting (a .granule) (a .spt0) (a .spt1)) (a .image .now) (a .slot) in
+    let room = length (a .name .now) in
+    let e = sym (ap known (c .before .fitting2 .given .1))
+    ∙ at-fitting .fitting .ensures
+    ∙ ap (λ x. fitting x (length (named .slot-name .result .now)) room) (at-info .slot-info .ensures)
+    ∙ ap (λ x. fitting info (length x) room) (named .slot-name .ensures) in
+    written-refused (a .name .now) (a .count .now) (fits-refused (λ _. it) info (length it) room e)
 
 returns-2 : tie.Need-returns-2
-unfolding known
+unfolding known name-answer
 returns-2 c =
-    let a = c .before .before .before .before .before .before .args in
-    let s = setting (a .granule) (a .spt0) (a .spt1) in
-    let f = sym (ap known (c .before .known .given .1)) ∙ c .before .before .before .slot-info .ensures in
-    written-refused (a .name .now) (a .count .now) (name-refused s (a .image .now) (a .slot) (length (a .name .now)) f)
-
-returns-3 : tie.Need-returns-3
-unfolding known
-returns-3 c =
-    let at-if1 = c .before .before .before .before in
-    let at-enum-told = at-if1 .before .before in
-    let at-slot-info = at-enum-told .before .before in
-    let a = at-slot-info .before .before .before .args in
-    let s = setting (a .granule) (a .spt0) (a .spt1) in
-    let f = sym (ap known (at-enum-told .enum-told .given .1)) ∙ at-slot-info .slot-info .ensures in
-    let found = at-if1 .before .slot-name .ensures in
-    let e = name-given s (a .image .now) (a .slot) (length (a .name .now)) f (rw (← found) (at-if1 .if1 .left)) in
+    let told = c .before .before .before .before in
+    let at-fitting = told .before .before in
+    let at-info = at-fitting .before in
+    let named = at-info .before in
+    let a = named .before .before .before .args in
+    let info = slot-info (setting (a .granule) (a .spt0) (a .spt1)) (a .image .now) (a .slot) in
+    let it = slot-name (setting (a .granule) (a .spt0) (a .spt1)) (a .image .now) (a .slot) in
+    let room = length (a .name .now) in
+    let found = named .slot-name .ensures in
+    let (fits, e) = fits-given (λ _. it) info (length it) room
+    (sym (ap known (told .enum-told .given .1))
+    ∙ at-fitting .fitting .ensures
+    ∙ ap (λ x. fitting x (length (named .slot-name .result .now)) room) (at-info .slot-info .ensures)
+    ∙ ap (λ x. fitting info (length x) room) found) in
     record {
       returned = number-given e;
       row-left =
-          put-front (c .before .before .put-bytes .ensures) (at-if1 .if1 .left)
+          put-front (c .before .before .put-bytes .ensures) (rw found (leb-true (length it) room fits))
           ∙ ap (λ x. row-after x (a .name .now)) (ap given found ∙ e);
       count-left = ap length found ∙ kept-given length (a .count .now) e;
     }
@@ -55,11 +61,11 @@ delunkpawi-slot-name-spec =
     tie.close
     (tie.spec
     (λ c κs. search needs)
+    (λ c κs. search needs)
+    (λ c κs. search needs)
     (λ c. search needs)
-    enum-told
+    (λ c. search needs)
     (λ c κs. search needs)
     returns
-    (λ c κs. search needs)
-    returns-2
     (λ c. search needs)
-    returns-3)
+    returns-2)

@@ -3,9 +3,9 @@ use mathlib.Core.Path.{_∙_}
 use borrow.Author.Needs.{needs}
 use Rattle.jobs.specs.Jobs.{next-of}
 use Rattle.job_bytes.proofs.Advancing.{length-of-job}
-use Rattle.linked.specs.StepNumbers.{step-kind, step-address, step-byte}
-use Rattle.linked.proofs.Numbered.{number-refused, kept-refused, number-given, kept-given}
-use Rattle.linked.proofs.Held.{holds-none, holds-one, job-held}
+use Rattle.codes.specs.StepNumbers.{step-kind, step-address, step-byte}
+use Rattle.codes.proofs.Numbered.{number-refused, kept-refused, number-given, kept-given}
+use Rattle.codes.proofs.Held.{holds-none, holds-one, job-held}
 use Rattle.linked.proofs.runs.delunkpawi_next_step.Statement.{statement}
 use Rattle.linked.proofs.runs.delunkpawi_next_step.Tie as tie
 
@@ -32,18 +32,19 @@ next-step-requires c κs =
 
 returns-2 : tie.Need-returns-2
 returns-2 c =
-    let at-next-step = c .before .before .before in
+    let at-next-step = c .before in
     let at-if1 = at-next-step .before in
     let t = at-if1 .before .is-job in
     let a = at-if1 .before .before .before .args in
     let e = job-held (a .job .now) (t .result) (t .ensures) (at-if1 .if1 .left) in
-    let next = at-next-step .next-step .ensures in (
+    let next = at-next-step .next-step .ensures in
+    let code = c .step-code .ensures in (
       number-given e,
       (
-        c .before .before .kind-of .ensures ∙ rw next (kept-given (λ j. step-kind (next-of j)) (a .kind .now) e),
+        code .0 ∙ rw next (kept-given (λ j. step-kind (next-of j)) (a .kind .now) e),
         (
-          c .before .address-of .ensures ∙ rw next (kept-given (λ j. step-address (next-of j)) (a .address .now) e),
-          c .byte-of .ensures ∙ rw next (kept-given (λ j. step-byte (next-of j)) (a .byte .now) e),
+          code .1 .0 ∙ rw next (kept-given (λ j. step-address (next-of j)) (a .address .now) e),
+          code .1 .1 ∙ rw next (kept-given (λ j. step-byte (next-of j)) (a .byte .now) e),
         ),
       ),
     )
@@ -55,7 +56,5 @@ delunkpawi-next-step-spec =
     (λ c κs. search needs)
     returns
     next-step-requires
-    (λ c κs. search needs)
-    (λ c κs. search needs)
     (λ c κs. search needs)
     returns-2)

@@ -6,7 +6,7 @@ use borrow.Author.Tests.{le-leb}
 use Rattle.rules.specs.Table.{entries, starts}
 use Rattle.rules.specs.Pointers.{places}
 use Rattle.rules.specs.Copies.{order-by}
-use Rattle.places.proofs.BootOrder.{order-fits}
+use Rattle.boot_order.proofs.BootOrder.{order-fits}
 use borrow.Author.Needs.{needs}
 use Rattle.reading.proofs.order.has_room.Statement.{statement}
 use Rattle.reading.proofs.order.has_room.Tie as tie

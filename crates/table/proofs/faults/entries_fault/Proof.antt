@@ -6,8 +6,8 @@ use mathlib.Core.List.{List}
 use borrow.Author.Needs.{needs}
 use Rattle.rules.specs.Lists.{all, pairwise}
 use Rattle.rules.specs.Table.{Entry, rows, name-right, names-differ, range-aligned, range-inside, ranges-apart}
-use Rattle.table.specs.Inner.Rules.{keeps}
-use Rattle.table.proofs.FirstBroken.{all-by-number, pairs-by-number, kept}
+use Rattle.entry_rules.specs.Inner.Rules.{keeps}
+use Rattle.entry_rules.proofs.FirstBroken.{all-by-number, pairs-by-number, kept}
 use Rattle.table.proofs.FaultFound.{fault-3, fault-4, fault-5, fault-6, fault-7, fault-of-six}
 use Rattle.table.proofs.faults.entries_fault.Statement.{statement}
 use Rattle.table.proofs.faults.entries_fault.Tie as tie

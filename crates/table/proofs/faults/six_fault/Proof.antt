@@ -8,7 +8,7 @@ use Rattle.rules.specs.Table.{Entry, rows, six-named, boot-info-at-0, tables-as
 use Rattle.walks.specs.Entries.{most-entries}
 use Rattle.walks.proofs.Joined.{failed, passed}
 use Rattle.table.specs.Inner.Six.{Below, below}
-use Rattle.table.specs.Inner.Rules.{keeps}
+use Rattle.entry_rules.specs.Inner.Rules.{keeps}
 use Rattle.table.proofs.SixFound.{all-below, below-more, six-named-below, rule-9-by-number, rule-10-by-number, rule-11-by-number}
 use Rattle.table.proofs.FaultFound.{fault-8, fault-9, fault-10, fault-11, none-broken}
 use Rattle.table.proofs.faults.six_fault.Statement.{statement}

@@ -1,0 +1,5 @@
+pub mod Locating
+pub mod EqualCopies
+pub mod Drafting
+pub mod Asking
+pub mod Examples

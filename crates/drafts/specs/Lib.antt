@@ -1,0 +1,2 @@
+pub mod JobFor
+pub mod Inner

@@ -1,0 +1,3 @@
+pub mod FirstBroken
+mod Padding
+mod Ascending

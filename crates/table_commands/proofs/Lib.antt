@@ -1,0 +1,2 @@
+mod RenameJob
+pub mod NewAsked

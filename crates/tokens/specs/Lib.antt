@@ -1,0 +1,5 @@
+pub mod Answers
+pub mod Hex
+pub mod Numbers
+pub mod Sum
+pub mod Words

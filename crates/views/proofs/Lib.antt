@@ -1,0 +1,4 @@
+pub mod Views
+pub mod Seen
+pub mod Due
+pub mod Opening
