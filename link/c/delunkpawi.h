@@ -1,7 +1,7 @@
 /* A verified flash updater for remote system update: its functions as C calls them.
  *
- * The library is made by `link/build`, for x86-64 Linux. Nothing checks this header against it but the two examples,
- * so pass exactly these types.
+ * The library is made by `link/build`, for x86-64 Linux. Nothing checks this header against it but the programs that
+ * `link/build` runs, so pass exactly these types.
  *
  * What every function asks of its caller, and all that it asks:
  *   - a pointer is not null, also where its length is 0, and what it points to stays valid during the call;
@@ -35,8 +35,8 @@
  *   92  no such entry
  *   93  no such place
  *
- * They are listed in the order of checking. docs/REFUSALS.md says what to do about each; delunkpawi_table_faults tells
- * what each copy of the table breaks after 50 or 51.
+ * They are listed in the order of checking, but that 90 comes before all others. docs/REFUSALS.md says what to do about
+ * each; delunkpawi_table_faults tells what each copy of the table breaks after 50 or 51.
  */
 #ifndef DELUNKPAWI_H
 #define DELUNKPAWI_H

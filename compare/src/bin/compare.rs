@@ -17,7 +17,10 @@ compare run REPLAY [--seed N] [--commands N] [--fault N]
 compare store DIRECTORY [--seed N]
     writes scripts to DIRECTORY/stdin and what they print to DIRECTORY/stdout
 compare speed
-    measures order lists, starts and runs";
+    measures order lists, starts and runs
+compare places
+    measures starts with the job's buffer and the image at every eighth byte of a page; wants the
+    updater's library";
 
 fn main() -> ExitCode {
     let arguments: Vec<String> = env::args().skip(1).collect();
@@ -27,6 +30,11 @@ fn main() -> ExitCode {
         ["store", directory, options @ ..] => store(Path::new(directory), options),
         ["speed"] => {
             speed::measure();
+            Ok(true)
+        }
+        #[cfg(feature = "linked")]
+        ["places"] => {
+            speed::measure_places();
             Ok(true)
         }
         _ => Err(USAGE.to_string()),

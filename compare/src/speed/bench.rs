@@ -25,7 +25,7 @@ const FIXED_NAMES: [&str; 6] = ["BOOT_INFO", "FACTORY_IMAGE", "SPT0", "SPT1", "C
 /// down for a while does so for all of them.
 const ROUNDS: usize = 60;
 /// Calls in a round.
-const CALLS: usize = 100;
+pub(super) const CALLS: usize = 100;
 
 /// A round of calls on an image, and how many nanoseconds one of them took.
 type Round = Box<dyn FnMut(&mut [u8]) -> f64>;
@@ -137,7 +137,13 @@ fn print_ratios(mut ratios: Vec<f64>) {
 /// A flash with slots spread over the image, with gaps between them and a longer one behind the last.
 /// The places are used in turn by all slots but so many of the first, which are not in the order. Of
 /// a slot's first 4,096 bytes only the last shows that it is not empty.
-fn bench_flash(image_length: usize, slots: u64, shape: Shape, used: u64, outside: usize) -> Flash {
+pub(super) fn bench_flash(
+    image_length: usize,
+    slots: u64,
+    shape: Shape,
+    used: u64,
+    outside: usize,
+) -> Flash {
     const BLOCK: u64 = BLOCK_BYTES as u64;
     let fixed = (0..).zip(FIXED_NAMES);
     let mut partitions: Vec<_> =
@@ -279,7 +285,7 @@ fn least_times(mut rounds: Vec<Round>, image: &mut [u8]) -> Vec<f64> {
 }
 
 /// Nanoseconds that one of these calls takes.
-fn time<T>(inputs: impl IntoIterator<Item = T>, mut call: impl FnMut(T)) -> f64 {
+pub(super) fn time<T>(inputs: impl IntoIterator<Item = T>, mut call: impl FnMut(T)) -> f64 {
     let began = Instant::now();
     for input in inputs {
         call(input);

@@ -26,6 +26,53 @@ fn setting(geometry: &Geometry) -> (usize, usize, usize) {
     (granule as usize, spt0 as usize, spt1 as usize)
 }
 
+/// The length of a buffer for a job.
+pub fn job_size() -> usize {
+    // SAFETY: it takes nothing and answers a constant.
+    unsafe { delunkpawi_job_size() }
+}
+
+/// Starts a command into a buffer for its job; 0, or the refusal.
+pub fn start_into(image: &[u8], geometry: &Geometry, command: &Command, job: &mut [u8]) -> u8 {
+    let (granule, spt0, spt1) = setting(geometry);
+    let (at, length) = (image.as_ptr(), image.len());
+    let (job, size) = (job.as_mut_ptr(), job.len());
+    // SAFETY: image, name and the job's buffer are lent for the call, with their lengths.
+    unsafe {
+        match command {
+            Command::Enable(slot) => {
+                delunkpawi_enable(at, length, granule, spt0, spt1, *slot, job, size)
+            }
+            Command::Disable(slot) => {
+                delunkpawi_disable(at, length, granule, spt0, spt1, *slot, job, size)
+            }
+            Command::Rename(slot, name) => {
+                let (name, bytes) = (name.as_ptr(), name.len());
+                delunkpawi_rename(at, length, granule, spt0, spt1, *slot, name, bytes, job, size)
+            }
+            Command::Create(slot_length, name) => {
+                let (name, bytes) = (name.as_ptr(), name.len());
+                delunkpawi_create(
+                    at,
+                    length,
+                    granule,
+                    spt0,
+                    spt1,
+                    name,
+                    bytes,
+                    *slot_length,
+                    job,
+                    size,
+                )
+            }
+            Command::Delete(slot) => {
+                delunkpawi_delete(at, length, granule, spt0, spt1, *slot, job, size)
+            }
+            Command::Repair => delunkpawi_repair(at, length, granule, spt0, spt1, job, size),
+        }
+    }
+}
+
 impl Updater for Linked {
     type Job = Vec<u8>;
 
@@ -42,8 +89,7 @@ impl Updater for Linked {
     }
 
     fn no_job() -> Vec<u8> {
-        // SAFETY: it takes nothing and answers a constant.
-        vec![0; unsafe { delunkpawi_job_size() }]
+        vec![0; job_size()]
     }
 
     fn start(
@@ -52,46 +98,7 @@ impl Updater for Linked {
         command: &Command,
         job: &mut Vec<u8>,
     ) -> Result<(), u32> {
-        let (granule, spt0, spt1) = setting(geometry);
-        let (at, length) = (image.as_ptr(), image.len());
-        let (job, size) = (job.as_mut_ptr(), job.len());
-        // SAFETY: image, name and the job's buffer are lent for the call, with their lengths.
-        let refused = unsafe {
-            match command {
-                Command::Enable(slot) => {
-                    delunkpawi_enable(at, length, granule, spt0, spt1, *slot, job, size)
-                }
-                Command::Disable(slot) => {
-                    delunkpawi_disable(at, length, granule, spt0, spt1, *slot, job, size)
-                }
-                Command::Rename(slot, name) => {
-                    let (name, bytes) = (name.as_ptr(), name.len());
-                    delunkpawi_rename(
-                        at, length, granule, spt0, spt1, *slot, name, bytes, job, size,
-                    )
-                }
-                Command::Create(slot_length, name) => {
-                    let (name, bytes) = (name.as_ptr(), name.len());
-                    delunkpawi_create(
-                        at,
-                        length,
-                        granule,
-                        spt0,
-                        spt1,
-                        name,
-                        bytes,
-                        *slot_length,
-                        job,
-                        size,
-                    )
-                }
-                Command::Delete(slot) => {
-                    delunkpawi_delete(at, length, granule, spt0, spt1, *slot, job, size)
-                }
-                Command::Repair => delunkpawi_repair(at, length, granule, spt0, spt1, job, size),
-            }
-        };
-        unless_refused(refused, ())
+        unless_refused(start_into(image, geometry, command, job), ())
     }
 
     fn run(job: &mut Vec<u8>, image: &mut [u8], budget: u64) -> Result<u64, u32> {

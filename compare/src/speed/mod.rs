@@ -4,8 +4,12 @@ mod bench;
 mod independent;
 #[cfg(feature = "linked")]
 mod linked;
+#[cfg(feature = "linked")]
+mod placing;
 
 pub use bench::measure;
+#[cfg(feature = "linked")]
+pub use placing::measure as measure_places;
 
 use crate::document::commands::Command;
 use crate::document::image::Geometry;

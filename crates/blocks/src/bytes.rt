@@ -17,7 +17,7 @@ pub fn copied(block: &[u8]) -> [u8; rules::BLOCK_SIZE]
     ensures { λ r. ⌜ r ≡ now (block .entry) ⌝ }
 {
     let mut b = erased_block();
-    fields::stores::copy(&mut b, 0, block);
+    fields::stores::copy_block(&mut b, 0, block);
     b
 }
 

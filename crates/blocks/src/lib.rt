@@ -1,4 +1,4 @@
-// What a command makes up beforehand: blocks by value, places, and the jobs that carry them.
+// What a command makes up beforehand: blocks, by value or in a room lent for them, places, and the plans of jobs.
 pub mod bytes; // bytes put into a block
 pub mod pointers; // the places of a pointer block
 pub mod packing; // a pointer block with another order

@@ -81,7 +81,7 @@ pub fn put_name(t: &[u8], e: EntryNo, name: &[u8], room: &mut [u8])
 {
     let at = entries::entry_offset(e);
     let zeros = [0; 16];
-    fields::stores::copy(room, 0, t);
+    fields::stores::copy_block(room, 0, t);
     fields::stores::copy(room, at, &zeros);
     fields::stores::copy(room, at, name);
 }

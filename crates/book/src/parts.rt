@@ -1,4 +1,4 @@
-// Tables by value.
+// Tables by value: with the new name, without a slot, with a new one.
 use rules::EntryNo;
 use rules::Setting;
 use rules::SlotNo;

@@ -1,16 +1,9 @@
 // A name that has to fit into lent bytes.
 use reading::Known;
-use rules::NO_FAULT;
-use rules::Refusal;
+use rules::refusals::NAME_TOO_LONG;
 ghost use mathlib.Core.Path.{_≡_};
 ghost use Rattle.reading.specs.Answers.{known};
 ghost use Rattle.codes.specs.Inner.Fitting.{fitting};
-
-const NAME_TOO_LONG: Refusal = Refusal {
-    number: 91,
-    fault0: NO_FAULT,
-    fault1: NO_FAULT,
-};
 
 // What is known of a slot or an entry, or 91 where its name is longer than the bytes lent for it.
 pub fn fitting(what: Known, size: usize, room: usize) -> Known

@@ -1,5 +1,6 @@
 // A job in a lent buffer run, and steps of it counted, with the answer as numbers.
 use jobs::Did;
+use rules::refusals::NOT_A_JOB;
 ghost use mathlib.Core.Path.{_≡_};
 ghost use Rattle.codes.specs.Counted.{Counted};
 ghost use Rattle.codes.specs.Ran.{lent, running, ran-as};
@@ -13,7 +14,7 @@ pub fn run(job: &mut [u8], image: &mut [u8], budget: usize, done: &mut usize) ->
         ⌝ }
 {
     if !job_bytes::held::is_job(job) {
-        return 90;
+        return NOT_A_JOB;
     }
     let did = job_bytes::held::run(job, image, budget);
     match did {
@@ -32,7 +33,7 @@ pub fn advance(job: &mut [u8], steps: usize, count: &mut usize) -> u8
         ⌝ }
 {
     if !job_bytes::held::is_job(job) {
-        return 90;
+        return NOT_A_JOB;
     }
     let did = job_bytes::held::advance(job, steps);
     match did {

@@ -1,4 +1,4 @@
-// The two copies of a pair: whether they are equal, and repair from the copy read.
+// Repair, once the view of the flash is known: the copy not read is rewritten from the copy read.
 use blocks::made;
 use drafts::Draft;
 use rules::Setting;

@@ -1,5 +1,5 @@
-// A command's draft: its refusal, or its job in short, with the bytes that it writes in a room lent beside it. What all
-// commands share: who asks for a slot, the places that give it, bytes into places.
+// A command's draft: its refusal, or its job in short, with the bytes that it writes in a room lent beside it. What
+// several commands share: refusals 6 and 7, the places that give a slot, bytes into places.
 pub mod refusals; // refusals 6 and 7
 pub mod givings; // the places that give a slot
 

@@ -2,11 +2,13 @@
 use rules::EntryNo;
 ghost use mathlib.Core.Path.{_≡_};
 ghost use Prim.Native.Nat.{_+_, _*_, _≤_, _<_};
-ghost use lib.ListN.{length};
-ghost use Rattle.rules.specs.Bytes.{block-size, up-to-zero};
+ghost use lib.Dec.{eqb};
+ghost use lib.ListN.{length, drop};
+ghost use Rattle.rules.specs.Bytes.{field, block-size, up-to-zero};
 ghost use Rattle.rules.specs.Table.{entry-count, rows, has-name, named};
 ghost use Rattle.walks.specs.Find.{find};
 ghost use Rattle.walks.specs.Entries.{entry-at, most-entries, HasEntries};
+ghost use Rattle.walks.specs.Four.{one-of-four};
 
 // Where the entries begin, and the length of one.
 const FIRST_ENTRY: usize = 0x20;
@@ -47,18 +49,39 @@ pub fn entry_start(table: &[u8], e: EntryNo) -> u64
     fields::le64(table, FIRST_ENTRY + ENTRY_LENGTH * e.0 + 16)
 }
 
+// One of four entries starts there.
+pub fn starts_in_four(table: &[u8], e: EntryNo, start: u64) -> bool
+    requires { ⌜ (length (now table) ≡ block-size) × (e .0 + 4 ≤ most-entries) ⌝ }
+    ensures { λ r. ⌜ r ≡ one-of-four (λ i. eqb (entry-at (now (table .entry)) i .start) start) (e .0) ⌝ }
+{
+    fields::one_of_four(
+        table,
+        FIRST_ENTRY + ENTRY_LENGTH * e.0 + 16,
+        ENTRY_LENGTH,
+        start,
+    )
+}
+
 pub fn entry_size(table: &[u8], e: EntryNo) -> u64
     requires { ⌜ (length (now table) ≡ block-size) × (e .0 < most-entries) ⌝ }
     ensures { λ r. ⌜ r ≡ entry-at (now (table .entry)) (e .0) .size ⌝ }
 {
-    fields::le32(table, FIRST_ENTRY + ENTRY_LENGTH * e.0 + 24)
+    four_bytes(table, e, 24)
 }
 
 pub fn entry_flags(table: &[u8], e: EntryNo) -> u64
     requires { ⌜ (length (now table) ≡ block-size) × (e .0 < most-entries) ⌝ }
     ensures { λ r. ⌜ r ≡ entry-at (now (table .entry)) (e .0) .flags ⌝ }
 {
-    fields::le32(table, FIRST_ENTRY + ENTRY_LENGTH * e.0 + 28)
+    four_bytes(table, e, 28)
+}
+
+// The field of 4 bytes at an offset of an entry.
+fn four_bytes(table: &[u8], e: EntryNo, at: usize) -> u64
+    requires { ⌜ (length (now table) ≡ block-size) × ((e .0 < most-entries) × (at + 4 ≤ 32)) ⌝ }
+    ensures { λ r. ⌜ r ≡ field at 4 (drop (0x20 + 32 * e .0) (now (table .entry))) ⌝ }
+{
+    fields::le32(table, FIRST_ENTRY + ENTRY_LENGTH * e.0 + at)
 }
 
 // The entry has that name, both up to their zero bytes.

@@ -4,7 +4,7 @@ use mathlib.Core.List.{List, _++_, append-assoc}
 use Prim.Native.Nat.{ℕ, zero, suc, _+_, _*_, _/_, _^_, _≤_}
 use native.Mathlib.Nat.{div-div-eq-div-mul, div-one, pow-suc, zero-add, suc-add, mul-comm}
 use native.Mathlib.Omega.{arith}
-use lib.ListN.{length, take, drop, length-append, length-take, length-drop}
+use lib.ListN.{length, take, drop, length-append, length-take, length-drop, take-append-drop}
 use lib.Seq.{sets, sets-eq, paste, take-at, drop-at, take-length, length-take-le, drop-drop}
 use Rattle.rules.specs.Bytes.{bytes-of}
 use Rattle.rules.specs.Final.{put-at}
@@ -46,6 +46,16 @@ pub put-then : (at n : ℕ) (xs ys img : List ℕ) {mid after : List ℕ}
     → after ≡ put-at (at + n) ys mid
     → after ≡ put-at at (xs ++ ys) img
 put-then at n xs ys img l h e f = f ∙ rw e (rw l at (put-at-then at xs ys img (rw l h)))
+
+-- bytes put in two parts
+pub parts-put : (at n : ℕ) (bs img : List ℕ) {mid after : List ℕ}
+    → n ≤ length bs
+    → at + n ≤ length img
+    → mid ≡ put-at at (take n bs) img
+    → after ≡ put-at (at + n) (drop n bs) mid
+    → after ≡ put-at at bs img
+parts-put at n bs img within h e f =
+    rw (take-append-drop n bs) at (put-then at n (take n bs) (drop n bs) img (length-take-le n bs within) h e f)
 
 pub number-then : (at n v : ℕ) (ys img : List ℕ) {mid after : List ℕ}
     → at + n ≤ length img

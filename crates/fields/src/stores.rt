@@ -2,8 +2,10 @@
 ghost use mathlib.Core.Path.{_≡_};
 ghost use Prim.Native.Nat.{_+_, _≤_};
 ghost use lib.ListN.{length, replicate};
-ghost use Rattle.rules.specs.Bytes.{bytes-of};
+ghost use Rattle.rules.specs.Bytes.{bytes-of, block-size};
 ghost use Rattle.rules.specs.Final.{put-at};
+
+const HALF_BLOCK: usize = rules::BLOCK_SIZE / 2;
 
 // The 8 bytes of a number at an offset.
 pub fn store64(out: &mut [u8], at: usize, v: u64)
@@ -42,6 +44,16 @@ pub fn copy(out: &mut [u8], at: usize, given: &[u8])
         out[at + i] = given[i];
         i += 1;
     }
+}
+
+// A block at an offset, in halves: the instruction by which the C library copies more takes some processors twenty times
+// as long where source and target lie 1 to 15 bytes apart within their pages.
+pub fn copy_block(out: &mut [u8], at: usize, given: &[u8])
+    requires { ⌜ (length (now given) ≡ block-size) × (at + block-size ≤ length (now out)) ⌝ }
+    ensures { λ _. ⌜ now (out .exit) ≡ put-at at (now (given .entry)) (now (out .entry)) ⌝ }
+{
+    copy(out, at, &given[..HALF_BLOCK]);
+    copy(out, at + HALF_BLOCK, &given[HALF_BLOCK..]);
 }
 
 // Every byte the same.

@@ -4,6 +4,7 @@ use commands::Command;
 use drafts::Draft;
 use job_bytes::encoding;
 use rules::Setting;
+use rules::refusals::NOT_A_JOB;
 ghost use mathlib.Core.Path.{_≡_};
 ghost use lib.ListN.{length};
 ghost use Rattle.rules.specs.Bytes.{block-size};
@@ -66,7 +67,7 @@ pub fn start_into(
         ⌝ }
 {
     if job.len() != job_bytes::JOB_SIZE {
-        return 90;
+        return NOT_A_JOB;
     }
     let setting = Setting {
         granule: granule,

@@ -101,7 +101,7 @@ fn store_block(out: &mut [u8], at: usize, kind: Kind, block: &[u8])
     match kind {
         Kind::Nothing => {}
         Kind::Rewrite => {
-            fields::stores::copy(out, at, block);
+            fields::stores::copy_block(out, at, block);
         }
         Kind::Places => {}
     }

@@ -2,10 +2,11 @@
 --
 -- Take a flash whose two pairs agree, and any list of commands carried out by the functions for C. Each is started by
 -- `delunkpawi_enable`, `delunkpawi_disable`, `delunkpawi_rename`, `delunkpawi_create`, `delunkpawi_delete` or
--- `delunkpawi_repair` on the flash as it then is, into any buffer of 9,264 bytes. Where the number returned is 0, that buffer is run by any number of calls of
--- `delunkpawi_run` with any budgets, each on the buffer and the image that the last call left; where it is another
--- number, the command was refused and nothing is run. The power may fail between two steps or inside an erase; the
--- unfinished job is then lost. Nothing is known of these calls but what the contracts of these functions say.
+-- `delunkpawi_repair` on the flash as it then is, into any buffer of 9,264 bytes. Where the number returned is 0, that
+-- buffer is run by any number of calls of `delunkpawi_run` with any budgets, each on the buffer and the image that the
+-- last call left; where it is another number, the command was refused and nothing is run. The power may fail between two
+-- steps or inside an erase; the unfinished job is then lost. Nothing is known of these calls but what the contracts of
+-- these functions say.
 -- Then there are choices for the cut commands with which, after every command, what is said in crates/joined/proofs/
 -- Theorem holds, with the readers for C in the place of the others:
 --   `delunkpawi_order` returns 0 and writes and counts the book's boot order, in any row with room for it;

@@ -1,4 +1,5 @@
 // A job run, what remains of it, and steps of it that were carried out elsewhere.
+use rules::refusals::NOT_A_JOB;
 ghost use mathlib.Core.Path.{_≡_};
 ghost use Rattle.jobs.specs.Jobs.{steps-left, next-of};
 ghost use Rattle.job_bytes.specs.Form.{decoded};
@@ -33,7 +34,7 @@ pub extern "C" fn delunkpawi_remaining(job: &[u8], count: &mut usize) -> u8
         ⌝ }
 {
     if !job_bytes::held::is_job(job) {
-        return 90;
+        return NOT_A_JOB;
     }
     *count = job_bytes::held::remaining(job);
     0
@@ -59,7 +60,7 @@ pub extern "C" fn delunkpawi_next_step(
         ⌝ }
 {
     if !job_bytes::held::is_job(job) {
-        return 90;
+        return NOT_A_JOB;
     }
     let code = codes::steps::step_code(job_bytes::held::next_step(job));
     *kind = code.kind;

@@ -1,4 +1,4 @@
-// Prints the boot order of the image on standard input.
+// Prints the listing of the image on standard input: its boot order, then its dead places.
 use libc::STDIN_FILENO;
 use libc::STDOUT_FILENO;
 

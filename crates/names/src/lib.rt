@@ -1,4 +1,4 @@
-// Names up to their zero byte: how long one is, and whether two are the same.
+// Names up to their zero byte: the six fixed ones, how long one is, and whether two are the same.
 ghost use mathlib.Core.Path.{_≡_};
 ghost use Prim.Native.Nat.{_≤_};
 ghost use lib.Dec.{eqb};

@@ -13,7 +13,7 @@ ghost use Rattle.rules.specs.Bytes.{block, block-size};
 ghost use Rattle.rules.specs.Table.{starts};
 ghost use Rattle.rules.specs.Pointers.{place-offset, place-count, offset-right, fits-room, pointers-stand, places, all-ones, judged};
 ghost use Rattle.slots.specs.Inner.RowsOf.{HasRows};
-ghost use Rattle.slots.specs.Inner.Four.{one-of-four};
+ghost use Rattle.walks.specs.Four.{one-of-four};
 ghost use Rattle.places.specs.Inner.StandingPointers.{StandingPointers};
 ghost use Rattle.places.specs.Inner.PlacesOf.{free-from, places-of, HasPlaces};
 ghost use Rattle.places.specs.Inner.Added.{held-from, occurs-above, added-at, place-value};
@@ -30,7 +30,9 @@ const FIRST_OFFSET: u64 = 0x20;
 
 const LAST_OFFSET: u64 = BLOCK_SIZE - POINTER_SIZE;
 
-const POINTER_SIZE: u64 = 8;
+const POINTER_SIZE: u64 = PLACE_LENGTH as u64;
+
+const PLACE_LENGTH: usize = 8;
 
 // The value of an erased place.
 const ALL_ONES: u64 = 0xFFFF_FFFF_FFFF_FFFF;
@@ -172,7 +174,7 @@ fn value_at(p: &[u8], offset: usize, place: PlaceNo) -> u64
     requires { ⌜ StandingPointers (now p) × ((offset ≡ place-offset (now p)) × (place .0 < place-count (now p))) ⌝ }
     ensures { λ r. ⌜ r ≡ place-value (now (p .entry)) (place .0) ⌝ }
 {
-    fields::le64(p, offset + 8 * place.0)
+    fields::le64(p, offset + PLACE_LENGTH * place.0)
 }
 
 // The value of a place.
@@ -241,12 +243,9 @@ fn not_held_to(p: &[u8], places: Places, place: PlaceNo, v: u64) -> PlaceNo
 // One of four places has the value.
 fn held_in_four(p: &[u8], places: Places, place: PlaceNo, v: u64) -> bool
     requires { ⌜ HasPlaces (now p) places × (place .0 + 4 ≤ places .count) ⌝ }
-    ensures { λ r. ⌜ r ≡ one-of-four (λ k. eqb v (place-value (now (p .entry)) k)) (place .0) ⌝ }
+    ensures { λ r. ⌜ r ≡ one-of-four (λ k. eqb (place-value (now (p .entry)) k) v) (place .0) ⌝ }
 {
-    (v == place_value(p, places, place))
-        | (v == place_value(p, places, PlaceNo(place.0 + 1)))
-        | (v == place_value(p, places, PlaceNo(place.0 + 2)))
-        | (v == place_value(p, places, PlaceNo(place.0 + 3)))
+    fields::one_of_four(p, places.offset + PLACE_LENGTH * place.0, PLACE_LENGTH, v)
 }
 
 // What a place adds to the boot order: its slot, if it is live and no higher place has the same value.

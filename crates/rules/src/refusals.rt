@@ -1,7 +1,29 @@
-// The refusals of documents 01 and 02 by name, each with its number; 1, 2 and 3 are told by the caller's numbers alone, 50
-// and 51 carry the faults of the table copies. 92 and 93 are our own.
+// The refusals of documents 01 and 02 by name, each with its number; 90 to 93 are our own.
 use super::NO_FAULT;
 use super::Refusal;
+
+// ---- numbers alone: 1 to 3 are told before a refusal is made up, 50 and 51 carry the faults of the table copies, 90 is
+// told for C
+
+// The image's length is none of those allowed.
+pub const BAD_LENGTH: u8 = 1;
+
+// The granule is none of the three.
+pub const BAD_GRANULE: u8 = 2;
+
+// The addresses of the table copies are equal, off a granule's border or too high.
+pub const BAD_ADDRESSES: u8 = 3;
+
+// Neither table copy has the magic.
+pub const NO_MAGIC: u8 = 50;
+
+// Neither table copy stands, though one has the magic.
+pub const NO_TABLE: u8 = 51;
+
+// The buffer lent for a job has another length than a job's, or its bytes are none.
+pub const NOT_A_JOB: u8 = 90;
+
+// ---- refusals whose value is fixed
 
 // Neither pointer block stands.
 pub const NO_POINTERS: Refusal = Refusal {
@@ -104,6 +126,13 @@ pub const NO_START: Refusal = Refusal {
 // The slot to delete is in the boot order.
 pub const IN_ORDER: Refusal = Refusal {
     number: 43,
+    fault0: NO_FAULT,
+    fault1: NO_FAULT,
+};
+
+// The bytes lent for a name are too few.
+pub const NAME_TOO_LONG: Refusal = Refusal {
+    number: 91,
     fault0: NO_FAULT,
     fault1: NO_FAULT,
 };

@@ -1,3 +1,2 @@
 pub mod Initials
 pub mod RowsOf
-pub mod Four

@@ -1,3 +1,2 @@
 pub mod RowsOf
 pub mod Initials
-pub mod Four

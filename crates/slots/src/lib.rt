@@ -4,7 +4,6 @@ use rules::SlotNo;
 ghost use mathlib.Core.Path.{_≡_};
 ghost use mathlib.Core.Bool.{cond};
 ghost use Prim.Native.Nat.{_+_, _≤_, _<_};
-ghost use lib.Dec.{eqb};
 ghost use lib.ListN.{length, getD, drop};
 ghost use Rattle.rules.specs.Lists.{member};
 ghost use Rattle.rules.specs.Bytes.{block-size, up-to-zero};
@@ -14,7 +13,6 @@ ghost use Rattle.walks.specs.Find.{find};
 ghost use Rattle.walks.specs.Last.{last-from};
 ghost use Rattle.walks.specs.Entries.{entry-at, most-entries, HasEntries, slot-from};
 ghost use Rattle.slots.specs.Inner.Initials.{initials};
-ghost use Rattle.slots.specs.Inner.Four.{one-of-four};
 ghost use Rattle.slots.specs.Inner.RowsOf.{slots-before, rows-of, HasRows};
 
 // The rows of a table: how many entries count; the entry from which on all of them are slots; how many slots come before
@@ -105,23 +103,12 @@ fn none_before(table: &[u8], n: usize, start: u64) -> EntryNo
 {
     let mut i = 0;
     while i + 4 <= n {
-        if starts_in_four(table, EntryNo(i), start) {
+        if entries::starts_in_four(table, EntryNo(i), start) {
             return EntryNo(i);
         }
         i += 4;
     }
     EntryNo(i)
-}
-
-// One of four entries starts there. The tests are joined by `|`, so that one branch serves all four.
-fn starts_in_four(table: &[u8], e: EntryNo, start: u64) -> bool
-    requires { ⌜ (length (now table) ≡ block-size) × (e .0 + 4 ≤ most-entries) ⌝ }
-    ensures { λ r. ⌜ r ≡ one-of-four (λ i. eqb (entry-at (now (table .entry)) i .start) start) (e .0) ⌝ }
-{
-    (entries::entry_start(table, e) == start)
-        | (entries::entry_start(table, EntryNo(e.0 + 1)) == start)
-        | (entries::entry_start(table, EntryNo(e.0 + 2)) == start)
-        | (entries::entry_start(table, EntryNo(e.0 + 3)) == start)
 }
 
 // The entry number of a slot; n where there is no such slot.

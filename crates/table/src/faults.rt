@@ -1,4 +1,4 @@
-// The first broken rule of a table copy, and the entry that breaks it. Asked only where no copy stands.
+// The first broken rule of a table copy, and the entry that breaks it. Asked where no copy stands, or by `table_faults`.
 use super::six;
 use entry_rules::Rule;
 use entry_rules::each;

@@ -1,5 +1,5 @@
-// One copy of the sub-partition table: the eleven rules by which it stands, a function for each, and the first of them
-// that it breaks.
+// One copy of the sub-partition table: whether it stands by the eleven rules, and the first of them that it breaks. What
+// rules 3 to 7 and 9 to 11 ask of one entry, or of two, is in `entry_rules`.
 use entry_rules::Rule;
 use entry_rules::each;
 use entry_rules::naming;

@@ -1,8 +1,9 @@
 -- Reading with the smallest granule, in plain words.
 --
--- The granule matters to a reader in one rule of a table alone: the four blocks start at a multiple of it and are at
--- least one granule long. A table copy that stands with a larger granule stands with 4,096 too. So flash whose pairs
--- agree under a larger granule reads the same with 4,096: the same view, boot order and table, and its pairs agree.
+-- Beside refusals 2 and 3 the granule matters to a reader in one rule of a table alone: the four blocks start at a
+-- multiple of it and are at least one granule long. A table copy that stands with a larger granule stands with 4,096
+-- too. So flash whose pairs agree under a larger granule reads the same with 4,096: the same view, boot order and table,
+-- and its pairs agree.
 -- Where the pairs do not agree, another copy may be read: one that stands with 4,096 only. Assumes nothing.
 use mathlib.Core.Path.{_≡_, refl}
 use mathlib.Core.Bool.{true, not, _||_}

@@ -3,7 +3,9 @@ use super::Viewed;
 use rules::Refusal;
 use rules::Setting;
 use rules::View;
+use rules::refusals::NO_MAGIC;
 use rules::refusals::NO_POINTERS;
+use rules::refusals::NO_TABLE;
 ghost use mathlib.Core.Path.{_≡_};
 ghost use Rattle.rules.specs.Copies.{no-table, view-through};
 ghost use Rattle.views.specs.Answers.{viewed};
@@ -18,13 +20,13 @@ pub fn no_table(image: &[u8], setting: Setting) -> Refusal
     let fault1 = table::table_fault(image, setting.spt1, setting);
     if table::magic_right(image, setting.spt0) | table::magic_right(image, setting.spt1) {
         return Refusal {
-            number: 51,
+            number: NO_TABLE,
             fault0: fault0,
             fault1: fault1,
         };
     }
     Refusal {
-        number: 50,
+        number: NO_MAGIC,
         fault0: fault0,
         fault1: fault1,
     }

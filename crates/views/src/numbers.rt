@@ -1,5 +1,8 @@
 // Refusals 1 to 3: the image's length, the granule, and the addresses that the caller gives.
 use rules::Setting;
+use rules::refusals::BAD_ADDRESSES;
+use rules::refusals::BAD_GRANULE;
+use rules::refusals::BAD_LENGTH;
 ghost use mathlib.Core.Path.{_≡_};
 ghost use Prim.Native.Nat.{_<_};
 ghost use Rattle.rules.specs.Numbers.{length-right, granule-right, address-right, addresses-right};
@@ -15,13 +18,13 @@ pub fn due(setting: Setting, len: usize) -> u8
     ensures { λ r. ⌜ r ≡ due setting len ⌝ }
 {
     if !length_right(len) {
-        return 1;
+        return BAD_LENGTH;
     }
     if !granule_right(setting.granule) {
-        return 2;
+        return BAD_GRANULE;
     }
     if !addresses_right(setting, len) {
-        return 3;
+        return BAD_ADDRESSES;
     }
     0
 }

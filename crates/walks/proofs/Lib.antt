@@ -5,4 +5,5 @@ pub mod Rows
 pub mod Entries
 pub mod Find
 pub mod Last
+pub mod Four
 pub mod Slots

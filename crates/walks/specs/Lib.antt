@@ -1,3 +1,4 @@
 pub mod Find
 pub mod Last
 pub mod Entries
+pub mod Four

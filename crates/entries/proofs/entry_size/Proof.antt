@@ -1,18 +1,13 @@
--- `entries::entry_size` meets its contract: a field of the table is one of the entry. Assumes nothing.
-use mathlib.Core.Path.{sym, _∙_}
-use Prim.Native.Nat.{_+_, _*_}
+-- `entries::entry_size` reads a field of the entry. Assumes nothing.
 use borrow.Author.Needs.{needs}
 use Rattle.rules.specs.Table.{entry}
 use Rattle.walks.specs.Entries.{entry-at}
-use Rattle.walks.proofs.Fields.{field-drop}
 use Rattle.entries.proofs.entry_size.Statement.{statement}
 use Rattle.entries.proofs.entry_size.Tie as tie
 
 returns : tie.Need-returns
 unfolding entry-at entry
-returns c =
-    let a = c .before .before .before .args in
-    c .le32 .ensures .0 ∙ sym (field-drop 24 4 (0x20 + 32 * a .e .0) (a .table .now))
+returns c = c .four-bytes .ensures
 
 pub entry-size-spec : {M : Type 1} → statement M
-entry-size-spec = tie.close (tie.spec (λ c. search needs) (λ c. search needs) (λ c. search needs) (λ c κs. search needs) returns)
+entry-size-spec = tie.close (tie.spec (λ c κs. search needs) returns)

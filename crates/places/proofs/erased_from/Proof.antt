@@ -11,8 +11,8 @@ use Rattle.rules.specs.Lists.{all}
 use Rattle.rules.specs.Pointers.{place-count, places, all-ones}
 use Rattle.rules.proofs.Lists.Tests.{or-false}
 use Rattle.walks.proofs.Loops.{all-over, all-goes}
-use Rattle.slots.specs.Inner.Four.{one-of-four}
-use Rattle.slots.proofs.Four.{four-turns}
+use Rattle.walks.specs.Four.{one-of-four}
+use Rattle.walks.proofs.Four.{four-turns}
 use Rattle.places.specs.Inner.Added.{place-value}
 use Rattle.places.proofs.Values.{place-turn, place-over}
 use borrow.Author.Needs.{needs}

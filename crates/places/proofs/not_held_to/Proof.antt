@@ -8,8 +8,8 @@ use lib.Dec.{eqb}
 use borrow.Author.Tests.{eqb-false}
 use Rattle.rules.specs.Pointers.{place-count}
 use Rattle.walks.proofs.Loops.{member-goes}
-use Rattle.slots.specs.Inner.Four.{one-of-four}
-use Rattle.slots.proofs.Four.{four-turns}
+use Rattle.walks.specs.Four.{one-of-four}
+use Rattle.walks.proofs.Four.{four-turns}
 use Rattle.places.specs.Inner.Added.{held-from, place-value}
 use Rattle.places.proofs.Values.{place-turn, few-places}
 use Rattle.places.proofs.Free.{count-is, free-places}
@@ -17,11 +17,11 @@ use borrow.Author.Needs.{needs}
 use Rattle.places.proofs.not_held_to.Statement.{statement}
 use Rattle.places.proofs.not_held_to.Tie as tie
 
-none-holds : (p : List ℕ) (v k : ℕ) → k + 4 ≤ place-count p → one-of-four (λ j. eqb v (place-value p j)) k ≡ false
+none-holds : (p : List ℕ) (v k : ℕ) → k + 4 ≤ place-count p → one-of-four (λ j. eqb (place-value p j) v) k ≡ false
     → held-from p k v ≡ held-from p (k + 4) v
 none-holds p v =
-    four-turns (λ k. held-from p k v) (λ j. eqb v (place-value p j)) (place-count p)
-    (λ k h other. member-goes v (place-turn p k h) (eqb-false v (place-value p k) other))
+    four-turns (λ k. held-from p k v) (λ j. eqb (place-value p j) v) (place-count p)
+    (λ k h other. member-goes v (place-turn p k h) (λ same. eqb-false (place-value p k) v other (sym same)))
 
 abbrev Inv-loop : tie.InvT-loop
 Inv-loop p places' v end to₀ to = (to ≤ place-count p) × (held-from p to₀ v ≡ held-from p to v)

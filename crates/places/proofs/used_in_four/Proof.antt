@@ -2,7 +2,7 @@
 use native.Mathlib.Omega.{arith}
 use borrow.Author.Needs.{needs}
 use Rattle.rules.specs.Pointers.{all-ones}
-use Rattle.slots.specs.Inner.Four.{one-of-four}
+use Rattle.walks.specs.Four.{one-of-four}
 use Rattle.places.proofs.Values.{few-places}
 use Rattle.places.proofs.used_in_four.Statement.{statement}
 use Rattle.places.proofs.used_in_four.Tie as tie

@@ -1,5 +1,5 @@
--- Two pointer blocks of different shape. They disagree even where both stand: enable, disable and rename are refused 6,
--- and repair rewrites the copy that is not read with the bytes of the other. Assumes nothing.
+-- Two pointer blocks of different shape. They disagree even where both stand: every command but repair is refused 6, and
+-- repair rewrites the copy that is not read with the bytes of the other. Assumes nothing.
 use mathlib.Core.Path.{_≡_, refl, ap}
 use mathlib.Core.Bool.{Bool, true, false, cond, _&&_}
 use mathlib.Core.List.{List}
@@ -11,7 +11,7 @@ use Rattle.rules.specs.Answers.{unless, refused, numbered}
 use Rattle.rules.specs.Pointers.{place-offset, place-count, pointers-stand}
 use Rattle.rules.specs.Copies.{pair-agrees, tables-agree, pointers-agree, agree-by}
 use Rattle.rules.specs.Steps.{rewrite}
-use Rattle.rules.specs.Commands.{enable, disable, rename, repair-pair, job}
+use Rattle.rules.specs.Commands.{Command, enable, disable, rename, create, delete, repair, repair-pair, job}
 use Rattle.rules.specs.declared.Setting.{Setting}
 use Rattle.rules.specs.declared.View.{View}
 use Rattle.rules.proofs.Lists.Tests.{by-cases, same-true}
@@ -43,12 +43,15 @@ module _ (s : Setting) (img : List ℕ) (v : View) where
     unfolding agree-by
     not-agreed = rw shapes-disagree (by-cases (tables-agree s img) (λ t. rw t) (λ t. rw t))
 
-    pub refused-6 : (k : ℕ) (n : List ℕ)
-        → (job s img v (enable k) ≡ refused (numbered 6))
-        × (job s img v (disable k) ≡ refused (numbered 6))
-        × (job s img v (rename k n) ≡ refused (numbered 6))
+    -- every command but repair
+    pub refused-6 : (c : Command) → (c ≡ repair → ⊥) → job s img v c ≡ refused (numbered 6)
     unfolding job unless
-    refused-6 k n = (rw not-agreed, rw not-agreed, rw not-agreed)
+    refused-6 (enable k) h = rw not-agreed
+    refused-6 (disable k) h = rw not-agreed
+    refused-6 (rename k n) h = rw not-agreed
+    refused-6 (create n size) h = rw not-agreed
+    refused-6 (delete k) h = rw not-agreed
+    refused-6 repair h = absurd (h refl)
 
     pub rewritten-from-copy-read :
         repair-pair pointers-stand img (v .cpb0) (v .cpb1) (v .pointers)

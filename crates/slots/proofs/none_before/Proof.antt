@@ -13,8 +13,8 @@ use Rattle.walks.specs.Find.{find}
 use Rattle.walks.specs.Entries.{entry-at, slot-from}
 use Rattle.walks.proofs.Entries.{entries-turn}
 use Rattle.walks.proofs.Loops.{find-goes}
-use Rattle.slots.specs.Inner.Four.{one-of-four}
-use Rattle.slots.proofs.Four.{four-turns}
+use Rattle.walks.specs.Four.{one-of-four}
+use Rattle.walks.proofs.Four.{four-turns}
 use Rattle.slots.proofs.none_before.Statement.{statement}
 use Rattle.slots.proofs.none_before.Tie as tie
 

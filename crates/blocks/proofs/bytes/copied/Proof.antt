@@ -10,7 +10,7 @@ returns c =
     let at-copy = c .before in
     let at-erased-block = at-copy .before .before in
     let s = at-erased-block .before .before in
-    at-copy .copy .ensures ∙ copied-block (s .args .block .now) (at-erased-block .erased-block .result) (s .pre)
+    at-copy .copy-block .ensures ∙ copied-block (s .args .block .now) (at-erased-block .erased-block .result) (s .pre)
     (at-erased-block .erased-block .ensures)
 
 pub copied-spec : {M : Type 1} → statement M

@@ -1,4 +1,4 @@
--- `giving` meets its contract. The loop's invariant: the places below the next that give the slot are noted.
+-- `places_giving` meets its contract. The loop's invariant: the places below the next that give the slot are noted.
 -- Assumes nothing.
 use mathlib.Core.Path.{_≡_, refl, sym, _∙_}
 use mathlib.Core.List.{[], _∷_}

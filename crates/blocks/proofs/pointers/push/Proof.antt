@@ -1,4 +1,4 @@
--- `note` puts a place number into a row of them. Assumes nothing.
+-- `push` puts a place number into a row of them. Assumes nothing.
 use mathlib.Core.Path.{refl}
 use lib.ListN.{length-set}
 use borrow.Author.Needs.{needs}

@@ -11,10 +11,10 @@ returns c =
     let at-entry-offset = c .before .before .before .before .before .before .before .before .before .before .before .before .before in
     let s = at-entry-offset .before .before .before .before in
     let a = s .args in
-    c .before .before .copy3 .ensures
+    c .before .before .copy2 .ensures
     ∙ rw (
-      c .before .before .before .before .before .before .copy2 .ensures,
-      c .before .before .before .before .before .before .before .before .before .before .before .copy .ensures,
+      c .before .before .before .before .before .before .copy .ensures,
+      c .before .before .before .before .before .before .before .before .before .before .before .copy-block .ensures,
       put-whole (a .t .now) (a .room .now) (s .pre .1 .1 ∙ sym (s .pre .0 .0)),
     )
     (named-block (a .t .now) (a .name .now) (a .e .0) (at-entry-offset .entry-offset .result) (s .pre .0 .0)

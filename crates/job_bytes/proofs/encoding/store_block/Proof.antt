@@ -1,5 +1,4 @@
 -- `store_block` puts a block that is to be rewritten. Assumes nothing.
-use native.Mathlib.Omega.{arith}
 use borrow.Author.Needs.{needs}
 use Rattle.rules.specs.Bytes.{block-size}
 use Rattle.job_bytes.specs.Form.{block-over}
@@ -10,10 +9,10 @@ use Rattle.job_bytes.proofs.encoding.store_block.Tie as tie
 enum-told : tie.Need-enum-told
 enum-told c = search needs
 
-copy-requires : tie.Need-copy-requires
-copy-requires c κs =
+copy-block-requires : tie.Need-copy-block-requires
+copy-block-requires c κs =
     let s = c .before .before .before .before .before in
-    omega (arith, s .pre .0, s .pre .1 (c .before .enum-told2 .given .1))
+    (s .pre .1 (c .before .enum-told2 .given .1), s .pre .0)
 
 returns : tie.Need-returns
 unfolding block-over
@@ -23,7 +22,7 @@ returns c =
 
 returns-2 : tie.Need-returns-2
 unfolding block-over
-returns-2 c = rw ((c .before .before .before .before) .enum-told2 .given .1) (c .before .before .copy .ensures)
+returns-2 c = rw ((c .before .before .before .before) .enum-told2 .given .1) (c .before .before .copy-block .ensures)
 
 returns-3 : tie.Need-returns-3
 unfolding block-over
@@ -37,7 +36,7 @@ store-block-spec =
     (tie.spec
     enum-told
     (λ c. search needs)
-    copy-requires
+    copy-block-requires
     (λ c. search needs)
     returns
     (λ c. search needs)

@@ -4,7 +4,7 @@ use mathlib.Core.Bool.{Bool, false, _||_}
 use Prim.Native.Nat.{ℕ, _+_, _≤_, _<_}
 use native.Mathlib.Omega.{arith}
 use Rattle.rules.proofs.Lists.Tests.{or-false}
-use Rattle.slots.specs.Inner.Four.{one-of-four}
+use Rattle.walks.specs.Four.{one-of-four}
 
 -- `left i` is what the walk has left to tell at i
 pub four-turns : {B : Type 0} (left : ℕ → B) (f : ℕ → Bool) (n : ℕ)
@@ -22,3 +22,10 @@ four-turns left f n turn i h none =
   where
     to : (j k : ℕ) → k ≡ j + 1 → j < n → f j ≡ false → left j ≡ left k
     to j k e within fails = rw e (turn j within fails)
+
+-- four in a row from 0 on, told as the four from i on
+pub four-from : (f g : ℕ → Bool) (i : ℕ) → ((k : ℕ) → f k ≡ g (i + k)) → one-of-four f 0 ≡ one-of-four g i
+unfolding one-of-four
+four-from f g i same =
+    let here : i + 0 ≡ i = omega arith in
+    rw (same 0, same 1, same 2, same 3, here)
