@@ -1,7 +1,5 @@
-// What a command makes up beforehand: blocks, by value or in a room lent for them, places, and the plans of jobs.
+// What a command makes up beforehand: blocks, by value or in a room lent for them, and the plans of jobs.
 pub mod bytes; // bytes put into a block
-pub mod pointers; // the places of a pointer block
-pub mod packing; // a pointer block with another order
 pub mod tables; // a table with another name in an entry
 pub mod made; // jobs, and their plans
 

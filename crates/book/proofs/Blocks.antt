@@ -1,25 +1,24 @@
 -- Blocks by value: a lent block put over another, two compared, a table with the new name. Assumes nothing.
-use mathlib.Core.Path.{_≡_, refl, sym, ap, _∙_}
+use mathlib.Core.Path.{_≡_, sym, ap, _∙_}
 use mathlib.Core.Bool.{Bool, true, false, cond}
-use mathlib.Core.List.{List, append-assoc}
-use Prim.Native.Nat.{ℕ, _+_, _*_, _≤_, _<_}
+use mathlib.Core.List.{List}
+use Prim.Native.Nat.{ℕ, _≤_, _<_}
 use native.Mathlib.Omega.{arith}
 use lib.ListN.{length, drop, length-replicate}
-use lib.Seq.{take-all, sets-eq}
+use lib.Seq.{take-all}
 use lib.Dec.{leb}
 use borrow.Author.Tests.{leb-true, ltb-true}
 use Rattle.rules.specs.Lists.{same}
 use Rattle.rules.specs.Bytes.{block-size, up-to-zero}
-use Rattle.rules.specs.Table.{entry-count, entries, rows, slots, has-name, no-entry}
+use Rattle.rules.specs.Table.{entry-count, entries, slots, has-name, no-entry}
 use Rattle.rules.specs.Readers.{slot-row, slot-entry, slot-there}
-use Rattle.rules.specs.Commands.{padded-name, put-name, has-already}
+use Rattle.rules.specs.Commands.{put-name, has-already}
 use Rattle.rules.specs.Book.{renamed}
 use Rattle.rules.proofs.Lists.Tests.{by-cases, clash, and-true, same-true, same-of}
 use Rattle.rules.proofs.Table.Standing.{length-entries-from}
 use Rattle.rules.proofs.Table.Renaming.{slot-row-found}
 use Rattle.walks.specs.Entries.{entry-at, most-entries}
 use Rattle.walks.proofs.Entries.{entry-of-rows}
-use Rattle.walks.proofs.Joined.{and-with-false}
 use Rattle.text.specs.Put.{Put}
 use Rattle.text.proofs.Puts.{keeps-length, put-whole}
 use Rattle.book.specs.Kept.{new-name, no-block, has-slot}

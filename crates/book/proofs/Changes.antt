@@ -1,24 +1,25 @@
 -- The change that a book takes: by the parts that the code makes, and that it is document 01's where a command started.
 -- Assumes nothing.
 use mathlib.Core.Path.{_≡_, refl}
-use mathlib.Core.Bool.{Bool, true, not, cond}
+use mathlib.Core.Bool.{true, cond}
 use mathlib.Core.List.{List, _∷_}
-use Prim.Native.Nat.{ℕ}
-use lib.Dec.{leb, ltb}
-use borrow.Author.Tests.{le-leb}
+use Prim.Native.Nat.{ℕ, _<_}
+use lib.Dec.{leb}
+use borrow.Author.Tests.{le-leb, lt-ltb}
 use lib.ListN.{length}
-use Rattle.rules.specs.Lists.{without, any}
+use Rattle.rules.specs.Lists.{without}
 use Rattle.rules.specs.Bytes.{block}
-use Rattle.rules.specs.Answers.{Answer, given, unless, _>>=_}
+use Rattle.rules.specs.Answers.{given, _>>=_}
 use Rattle.rules.specs.declared.Setting.{Setting}
-use Rattle.rules.specs.Table.{entry-count, entries, has-name}
-use Rattle.rules.specs.Copies.{view, boot-order, agree-by}
+use Rattle.rules.specs.Table.{entry-count, entries, slots}
+use Rattle.rules.specs.Copies.{view, boot-order}
 use Rattle.rules.specs.Readers.{slot-there}
-use Rattle.rules.specs.Commands.{Command, enable, disable, rename, create, delete, repair, name-allowed, size-right, with-new-row, job, start}
+use Rattle.rules.specs.Commands.{Command, enable, disable, rename, create, delete, repair, with-new-row, job, start}
 use Rattle.rules.specs.Book.{Reading, read-by, reading, renamed, start-for, changed}
 use Rattle.rules.specs.declared.Step.{Step}
 use Rattle.rules.specs.declared.View.{View}
-use Rattle.rules.proofs.Lists.Tests.{by-cases, unless-given, bind-given, given-inj}
+use Rattle.rules.proofs.Lists.Tests.{by-cases, bind-given, given-inj}
+use Rattle.rules.proofs.Claim.Passed.{Passed, passed}
 use Rattle.walks.specs.Entries.{most-entries}
 use Rattle.views.proofs.Opening.{located}
 use Rattle.book.specs.Kept.{new-name, slots-of, reading-of, has-slot, has-row, takes, taken, deleted}
@@ -66,39 +67,31 @@ repaired s img b = refl
 
 -- ---- the book of a flash on which the command started takes the change
 
-slot-asked : (t6 t7 : Bool) (rest : Answer (List Step)) (ss : List Step)
-    → unless 6 t6 (unless 7 t7 rest) ≡ given ss
-    → t7 ≡ true
-slot-asked t6 t7 rest ss h = unless-given 7 t7 rest ss (unless-given 6 t6 (unless 7 t7 rest) ss h .1) .0
-
 takes-by-view : (s : Setting) (img : List ℕ) (v : View) (c : Command) (ss : List Step)
     → view s img ≡ given v
     → job s img v c ≡ given ss
     → takes c (read-by img v) ≡ true
-unfolding takes read-by job has-slot has-row
-takes-by-view s img v (enable k) ss e h = le-leb (length (boot-order img v)) most-entries (short-order s img v e)
-takes-by-view s img v (disable k) ss e h = refl
-takes-by-view s img v (rename k n) ss e h =
-    let t = block img (v .table) in
-    rw (
-      le-leb (entry-count t) most-entries (located s img v e .count-right),
-      slot-asked (agree-by s img v) (slot-there (entries t) k) _ ss h,
-    )
-takes-by-view s img v (create n size) ss e h =
-    let t = block img (v .table) in
-    let (_, e9) = unless-given 6 (agree-by s img v) _ ss h in
-    let (_, e10) = unless-given 9 (name-allowed n) _ ss e9 in
-    let (_, e40) = unless-given 10 (not (any (has-name n) (entries t))) _ ss e10 in
-    let (right, e41) = unless-given 40 (size-right size) _ ss e40 in
-    let (room, _) = unless-given 41 (ltb (entry-count t) 127) _ ss e41 in
-    rw (room, right)
-takes-by-view s img v (delete k) ss e h =
-    let t = block img (v .table) in
-    rw (
-      le-leb (entry-count t) most-entries (located s img v e .count-right),
-      slot-asked (agree-by s img v) (slot-there (entries t) k) _ ss h,
-    )
-takes-by-view s img v repair ss e h = refl
+unfolding takes read-by has-slot has-row slot-there
+takes-by-view s img v c ss e h = by-command c (passed s img v t (block img (v .pointers)) ss refl refl c h)
+  where
+    t : List ℕ
+    t = block img (v .table)
+
+    -- rename and delete
+    slot-taken : (k : ℕ) → k < length (slots (entries t)) → has-slot t k ≡ true
+    slot-taken k there =
+        rw (
+          le-leb (entry-count t) most-entries (located s img v e .count-right),
+          lt-ltb k (length (slots (entries t))) there,
+        )
+
+    by-command : (c : Command) → Passed s img v t (block img (v .pointers)) ss c → takes c (read-by img v) ≡ true
+    by-command (enable k) q = le-leb (length (boot-order img v)) most-entries (short-order s img v e)
+    by-command (disable k) q = refl
+    by-command (rename k n) q = slot-taken k (q .there)
+    by-command (create n size) q = rw (lt-ltb (entry-count t) 127 (q .few), q .right)
+    by-command (delete k) q = slot-taken k (q .there)
+    by-command repair q = refl
 
 -- document 01's change: from the reading of a flash, by a command that starts on it
 pub started-taken : (s : Setting) (img : List ℕ) (c : Command) (ss : List Step) (r : Reading)

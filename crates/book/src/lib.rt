@@ -9,7 +9,6 @@ use rules::Setting;
 use rules::SlotNo;
 use views::Viewed;
 ghost use mathlib.Core.Path.{_≡_};
-ghost use Rattle.rules.specs.Lists.{same};
 ghost use Rattle.rules.specs.Copies.{pairs-agree};
 ghost use Rattle.rules.specs.Book.{reading};
 ghost use Rattle.commands.specs.Begins.{command-of};

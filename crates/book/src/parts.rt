@@ -123,7 +123,7 @@ fn start_for(image: &[u8], setting: Setting, size: u64) -> u64
             let t = fields::block_at(image, table_at);
             let p = fields::block_at(image, pointers_at);
             let n = entries::entry_count(t);
-            let places = places::places_of(p);
+            let places = place_walks::places_of(p);
             rooms::starts::lowest_start(t, n, p, places, image.len() as u64, size)
         }
     }

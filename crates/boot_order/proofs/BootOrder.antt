@@ -20,11 +20,12 @@ use Rattle.rules.proofs.Lists.Tests.{by-cases, and-true}
 use Rattle.rules.proofs.Order.Clearing.{named-starts}
 use Rattle.rules.proofs.Order.OnceEach.{once-order, once-length}
 use Rattle.walks.proofs.Joined.{or-assoc, or-with-false}
-use Rattle.places.specs.Inner.Added.{added, added-at, then, growth, stored, place-value}
-use Rattle.places.specs.declared.Added.{Added}
-use Rattle.places.specs.declared.Added.the-variants.{Slot, Nothing}
+use Rattle.places.specs.Inner.Values.{place-value}
+use Rattle.place_walks.specs.Inner.Added.{added, added-at, then, growth, stored}
+use Rattle.place_walks.specs.declared.Added.{Added}
+use Rattle.place_walks.specs.declared.Added.the-variants.{Slot, Nothing}
 use Rattle.places.proofs.Values.{place-down}
-use Rattle.places.proofs.Free.{FreeFrom, none-above}
+use Rattle.place_walks.proofs.Free.{FreeFrom, none-above}
 
 -- a live place has its slot's start as its value
 pub live-start : (starts : List ℕ) (v : ℕ) (s : SlotNo) → judged starts v ≡ Live s → getD starts (s .0) 0 ≡ v

@@ -2,7 +2,7 @@
 // above which nothing is added, until all slots are met. A live place is compared with those above it up to the first
 // of its value and at most three further; of one slot these stretches overlap by no more, so that all of them together
 // are about places times slots at most.
-use places::Added;
+use place_walks::Added;
 use places::Places;
 use rules::PlaceNo;
 use slots::Rows;
@@ -13,7 +13,7 @@ ghost use lib.ListN.{length, drop};
 ghost use Rattle.rules.specs.Copies.{order-by};
 ghost use Rattle.slots.specs.Inner.RowsOf.{HasRows};
 ghost use Rattle.places.specs.Inner.PlacesOf.{HasPlaces};
-ghost use Rattle.places.specs.Inner.Added.{growth, stored};
+ghost use Rattle.place_walks.specs.Inner.Added.{growth, stored};
 
 // How many slots the order has.
 pub fn order_length(t: &[u8], rows: Rows, p: &[u8], places: Places) -> usize
@@ -25,7 +25,7 @@ pub fn order_length(t: &[u8], rows: Rows, p: &[u8], places: Places) -> usize
     let mut k = places.free.0;
     while (0 < k) & (len < total) {
         k -= 1;
-        len += growth_of(places::added_by(t, rows, p, places, PlaceNo(k)));
+        len += growth_of(place_walks::added_by(t, rows, p, places, PlaceNo(k)));
     }
     len
 }
@@ -43,7 +43,7 @@ pub fn write_order(t: &[u8], rows: Rows, p: &[u8], places: Places, row: &mut [u3
     let mut k = places.free.0;
     while (0 < k) & (at < total) {
         k -= 1;
-        let added = places::added_by(t, rows, p, places, PlaceNo(k));
+        let added = place_walks::added_by(t, rows, p, places, PlaceNo(k));
         store(added, at, row);
         at += growth_of(added);
     }

@@ -13,7 +13,7 @@ use Rattle.handing.specs.Begun.{handed, started-into}
 use Rattle.codes.specs.Ran.{Lent, lent, running, ran-as}
 use Rattle.handing.proofs.Beginning.{begun-holds}
 use Rattle.joined.specs.Items.{item-of}
-use Rattle.joined_for_c.specs.Items.{RunForC, all-ran-for-c, CarriedForC, begun-for-c, runs-after, carried-out-for-c, by-value, all-carried-out-for-c}
+use Rattle.joined_for_c.specs.Items.{all-ran-for-c, CarriedForC, begun-for-c, runs-after, carried-out-for-c, by-value, all-carried-out-for-c}
 use Rattle.joined_for_c.proofs.Theorem.{demand-3-for-c}
 use Rattle.carried_for_c.specs.Carrying.{left-after, budgeted, ran-if-started, as-asked-for-c, carried-twice-for-c}
 

@@ -4,11 +4,11 @@ use mathlib.Core.List.{List}
 use Prim.Native.Nat.{ℕ}
 use Rattle.rules.specs.Answers.{refused, given, _>>=_, numbered}
 use Rattle.rules.specs.declared.Refusal.{Refusal}
-use Rattle.jobs.specs.Jobs.{counted, counting}
+use Rattle.jobs.specs.Jobs.{counting}
 use Rattle.jobs.specs.declared.Did.{Did}
 use Rattle.jobs.specs.declared.Did.the-variants.{Steps, Refused}
 use Rattle.job_bytes.specs.Form.{malformed, job-from, decoded}
-use Rattle.job_bytes.specs.Running.{bytes-after, CountedHere}
+use Rattle.held_jobs.specs.Running.{bytes-after, CountedHere}
 use Rattle.codes.specs.Answered.{number, kept}
 use Rattle.codes.specs.Counted.{answered, counts, bytes-counted, Counted}
 

@@ -11,7 +11,7 @@ use Rattle.jobs.specs.declared.Did.{Did}
 use Rattle.jobs.specs.declared.Did.the-variants.{Steps, Refused}
 use Rattle.jobs.proofs.Running.{refused-steps}
 use Rattle.job_bytes.specs.Form.{malformed, job-from, decoded}
-use Rattle.job_bytes.specs.Running.{bytes-after, RanHere}
+use Rattle.held_jobs.specs.Running.{bytes-after, RanHere}
 use Rattle.codes.specs.Ran.{lent, running, ran-as}
 
 pub run-malformed : (bs img : List ℕ) (done budget : ℕ)

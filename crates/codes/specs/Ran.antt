@@ -8,7 +8,7 @@ use Rattle.jobs.specs.Jobs.{admitted, steps-done, advanced}
 use Rattle.jobs.specs.declared.Job.{Job}
 use Rattle.jobs.specs.declared.Did.the-variants.{Steps}
 use Rattle.job_bytes.specs.Form.{decoded}
-use Rattle.job_bytes.specs.Running.{bytes-after}
+use Rattle.held_jobs.specs.Running.{bytes-after}
 
 -- the bytes of the job, the image, and the number of steps told
 pub record Lent : Type 0 where

@@ -1,7 +1,6 @@
 // A job in a lent buffer run, and steps of it counted, with the answer as numbers.
 use jobs::Did;
 use rules::refusals::NOT_A_JOB;
-ghost use mathlib.Core.Path.{_≡_};
 ghost use Rattle.codes.specs.Counted.{Counted};
 ghost use Rattle.codes.specs.Ran.{lent, running, ran-as};
 
@@ -13,10 +12,10 @@ pub fn run(job: &mut [u8], image: &mut [u8], budget: usize, done: &mut usize) ->
         (running (now (job .entry)) (now (image .entry)))
         ⌝ }
 {
-    if !job_bytes::held::is_job(job) {
+    if !held_jobs::is_job(job) {
         return NOT_A_JOB;
     }
-    let did = job_bytes::held::run(job, image, budget);
+    let did = held_jobs::run(job, image, budget);
     match did {
         Did::Refused(why) => why.number,
         Did::Steps(n) => {
@@ -32,10 +31,10 @@ pub fn advance(job: &mut [u8], steps: usize, count: &mut usize) -> u8
         Counted steps r (now (job .entry)) (now (job .exit)) (now (count .entry)) (now (count .exit))
         ⌝ }
 {
-    if !job_bytes::held::is_job(job) {
+    if !held_jobs::is_job(job) {
         return NOT_A_JOB;
     }
-    let did = job_bytes::held::advance(job, steps);
+    let did = held_jobs::advance(job, steps);
     match did {
         Did::Refused(why) => why.number,
         Did::Steps(n) => {

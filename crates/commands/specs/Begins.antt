@@ -9,7 +9,6 @@ use Rattle.rules.specs.Copies.{view}
 use Rattle.rules.specs.Commands.{Command, enable, disable, rename, create, delete, repair, job}
 use Rattle.rules.specs.declared.Refusal.{Refusal}
 use Rattle.rules.specs.declared.Step.{Step}
-use Rattle.rules.specs.declared.View.{View}
 use Rattle.jobs.specs.declared.Job.{Job}
 use Rattle.blocks.specs.Made.{Lists, no-job}
 use Rattle.drafts.specs.JobFor.{job-by}

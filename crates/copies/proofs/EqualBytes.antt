@@ -9,7 +9,7 @@ use lib.Dec.{eqb}
 use lib.ListN.{length, getD, take, drop, replicate, drop-of-length-le, length-drop, length-replicate, getD-replicate}
 use lib.Seq.{drop-cons, drop-drop, take-nil}
 use Rattle.rules.specs.Lists.{same, all}
-use Rattle.walks.proofs.Joined.{and-assoc, and-with-true}
+use Rattle.walks.proofs.Joined.{and-assoc, and-with-true, same-parts}
 
 -- ---- two lists compared: `equal` tells whether the elements before the i-th are
 
@@ -26,15 +26,6 @@ module _ (a b : List ℕ) (i : ℕ) (equal : Bool) (same-length : length a ≡ l
       rw (drop-of-length-le a {i = i} over, drop-of-length-le b {i = i} (omega arith), and-with-true)
 
 -- ---- two lists compared in stretches
-
-same-parts : (n : ℕ) (a b : List ℕ) → length a ≡ length b
-    → same a b ≡ same (take n a) (take n b) && same (drop n a) (drop n b)
-unfolding same
-same-parts zero a b h = refl
-same-parts (suc n) [] [] h = refl
-same-parts (suc n) [] (y ∷ b) h = absurd (omega arith)
-same-parts (suc n) (x ∷ a) [] h = absurd (omega arith)
-same-parts (suc n) (x ∷ a) (y ∷ b) h = rw (same-parts n a b (omega arith), and-assoc)
 
 module _ (a b : List ℕ) (from size : ℕ) (same-length : length a ≡ length b) where
   stretch : same (drop from a) (drop from b)

@@ -21,7 +21,7 @@ use Rattle.rules.specs.declared.View.{View}
 use Rattle.rules.proofs.Lists.Tests.{unless-given}
 use Rattle.rules.proofs.Table.Standing.{length-entries-from}
 use Rattle.rules.proofs.Table.Renaming.{slot-row-found}
-use Rattle.blocks.proofs.Walking.{in-order}
+use Rattle.pointer_blocks.proofs.Walking.{in-order}
 use Rattle.drafts.specs.JobFor.{enable-job, disable-job, rename-job, job-for, job-by}
 use Rattle.drafts.specs.Inner.Drafted.{Drafts, Means}
 use Rattle.drafts.specs.Inner.Asked.{outcome, copies-equal, slot-asked}
@@ -31,6 +31,16 @@ use Rattle.drafts.specs.declared.Outcome.the-variants.{Started, Refused}
 use Rattle.drafts.proofs.Drafting.{drafts-job}
 use Rattle.drafts.proofs.EqualCopies.{pairs-agree-if-equal}
 use Rattle.drafts.proofs.Locating.{slot-inside}
+
+-- ---- refusals 8 and 43: a slot is in the boot order if a place gives it
+
+pub in-order-by : (img : List ℕ) (v : View) (k : ℕ) (t p ks : List ℕ)
+    → t ≡ block img (v .table)
+    → p ≡ block img (v .pointers)
+    → ks ≡ giving (starts t) k 0 (places p)
+    → member k (boot-order img v) ≡ ltb 0 (length ks)
+unfolding boot-order order-by
+in-order-by img v k t p ks et ep ek = rw (ek, ← et, ← ep) (in-order (starts t) k 0 (places p))
 
 -- ---- refusals 6 and 7
 
@@ -128,13 +138,9 @@ module _ (s : Setting) (img : List ℕ) (v : View) (h : view s img ≡ given v) 
 
       module _ (t p : List ℕ) (et : t ≡ block img (v .table)) (ep : p ≡ block img (v .pointers)) where
         module _ (ks : List ℕ) (ek : ks ≡ giving (starts t) k 0 (places p)) where
-          ordered : member k (boot-order img v) ≡ ltb 0 (length ks)
-          unfolding boot-order order-by
-          ordered = rw (ek, ← et, ← ep) (in-order (starts t) k 0 (places p))
-
           pub disable-refused-8 : length ks ≡ 0 → job s img v (disable k) ≡ refused (numbered 8)
           unfolding job unless
-          disable-refused-8 none = passed-by _ ∙ rw (ordered, none)
+          disable-refused-8 none = passed-by _ ∙ rw (in-order-by img v k t p ks et ep ek, none)
 
           pub disable-started : 0 < length ks
               → (room : List ℕ) (d : Draft)
@@ -144,7 +150,7 @@ module _ (s : Setting) (img : List ℕ) (v : View) (h : view s img ≡ given v) 
           disable-started some room d m =
               drafts-job s img v (disable k) room d
               (disable-steps (v .cpb0) (v .cpb1) (starts (block img (v .table))) (block img (v .pointers)) k)
-              (passed-by _ ∙ rw (ordered, lt-ltb 0 (length ks) some)) (rw (et, ep) at (m img))
+              (passed-by _ ∙ rw (in-order-by img v k t p ks et ep ek, lt-ltb 0 (length ks) some)) (rw (et, ep) at (m img))
 
       module _ (t : List ℕ) (n : ℕ) (et : t ≡ block img (v .table)) (en : n ≡ entry-count t) where
         same-rows : rows n t ≡ entries (block img (v .table))

@@ -1,7 +1,7 @@
 // The places that give a slot: disable clears them, and delete refuses a slot that has one.
 use super::SlotPlaces;
-use blocks::pointers;
 use blocks::tables;
+use pointer_blocks::pointers;
 use rules::SlotNo;
 use rules::View;
 ghost use Prim.Native.Nat.{_<_};
@@ -25,7 +25,7 @@ pub fn slot_places(image: &[u8], v: View, slot: SlotNo) -> SlotPlaces
     let t = fields::block_at(image, table_at);
     let p = fields::block_at(image, pointers_at);
     let rows = slots::rows_of(t);
-    let places = places::places_of(p);
+    let places = place_walks::places_of(p);
     let start = tables::slot_start(t, rows, slot);
     SlotPlaces {
         rows: rows,

@@ -7,7 +7,7 @@ ghost use lib.ListN.{length, drop};
 ghost use Rattle.rules.specs.Bytes.{field, block-size, up-to-zero};
 ghost use Rattle.rules.specs.Table.{entry-count, rows, has-name, named};
 ghost use Rattle.walks.specs.Find.{find};
-ghost use Rattle.walks.specs.Entries.{entry-at, most-entries, HasEntries};
+ghost use Rattle.walks.specs.Entries.{most-entries, HasEntries, HasEntry, entry-at};
 ghost use Rattle.walks.specs.Four.{one-of-four};
 
 // Where the entries begin, and the length of one.
@@ -35,7 +35,7 @@ pub fn entry_offset(e: EntryNo) -> usize
 
 // The 16 bytes of the name.
 pub fn entry_name(table: &[u8], e: EntryNo) -> &[u8]
-    requires { ⌜ (length (now table) ≡ block-size) × (e .0 < most-entries) ⌝ }
+    requires { ⌜ HasEntry (now table) (e .0) ⌝ }
     ensures { λ r. ⌜ (now r ≡ entry-at (now (table .entry)) (e .0) .name-field) × (length (now r) ≡ 16) ⌝ }
 {
     let at = FIRST_ENTRY + ENTRY_LENGTH * e.0;
@@ -43,7 +43,7 @@ pub fn entry_name(table: &[u8], e: EntryNo) -> &[u8]
 }
 
 pub fn entry_start(table: &[u8], e: EntryNo) -> u64
-    requires { ⌜ (length (now table) ≡ block-size) × (e .0 < most-entries) ⌝ }
+    requires { ⌜ HasEntry (now table) (e .0) ⌝ }
     ensures { λ r. ⌜ r ≡ entry-at (now (table .entry)) (e .0) .start ⌝ }
 {
     fields::le64(table, FIRST_ENTRY + ENTRY_LENGTH * e.0 + 16)
@@ -63,14 +63,14 @@ pub fn starts_in_four(table: &[u8], e: EntryNo, start: u64) -> bool
 }
 
 pub fn entry_size(table: &[u8], e: EntryNo) -> u64
-    requires { ⌜ (length (now table) ≡ block-size) × (e .0 < most-entries) ⌝ }
+    requires { ⌜ HasEntry (now table) (e .0) ⌝ }
     ensures { λ r. ⌜ r ≡ entry-at (now (table .entry)) (e .0) .size ⌝ }
 {
     four_bytes(table, e, 24)
 }
 
 pub fn entry_flags(table: &[u8], e: EntryNo) -> u64
-    requires { ⌜ (length (now table) ≡ block-size) × (e .0 < most-entries) ⌝ }
+    requires { ⌜ HasEntry (now table) (e .0) ⌝ }
     ensures { λ r. ⌜ r ≡ entry-at (now (table .entry)) (e .0) .flags ⌝ }
 {
     four_bytes(table, e, 28)
@@ -86,7 +86,7 @@ fn four_bytes(table: &[u8], e: EntryNo, at: usize) -> u64
 
 // The entry has that name, both up to their zero bytes.
 pub fn has_name(table: &[u8], e: EntryNo, wanted: &[u8]) -> bool
-    requires { ⌜ (length (now table) ≡ block-size) × (e .0 < most-entries) ⌝ }
+    requires { ⌜ HasEntry (now table) (e .0) ⌝ }
     ensures { λ r. ⌜ r ≡ has-name (up-to-zero (now (wanted .entry))) (entry-at (now (table .entry)) (e .0)) ⌝ }
 {
     names::same_name(entry_name(table, e), wanted)
@@ -110,7 +110,7 @@ pub fn find_named(table: &[u8], n: usize, wanted: &[u8]) -> EntryNo
 
 // The entry has that name, which the first byte decides for most.
 fn is_wanted(table: &[u8], e: EntryNo, wanted: &[u8]) -> bool
-    requires { ⌜ (length (now table) ≡ block-size) × (e .0 < most-entries) ⌝ }
+    requires { ⌜ HasEntry (now table) (e .0) ⌝ }
     ensures { λ r. ⌜ r ≡ has-name (up-to-zero (now (wanted .entry))) (entry-at (now (table .entry)) (e .0)) ⌝ }
 {
     if !names::begin_alike(entry_name(table, e), wanted) {

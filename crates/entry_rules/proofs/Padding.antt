@@ -3,7 +3,7 @@
 use mathlib.Core.Path.{_≡_, refl, sym, ap, _∙_}
 use mathlib.Core.Bool.{Bool, true, not, _&&_}
 use mathlib.Core.List.{List, [], _∷_, _++_}
-use Prim.Native.Nat.{ℕ, zero, suc, _+_, _*_, _-_, _<_}
+use Prim.Native.Nat.{ℕ, suc, _+_, _*_, _-_, _<_}
 use native.Mathlib.Omega.{arith}
 use lib.Dec.{eqb}
 use lib.ListN.{length, take, drop, replicate, length-take, length-drop}
@@ -16,7 +16,7 @@ use Rattle.rules.specs.Commands.{padded-name}
 use Rattle.rules.proofs.Lists.Tests.{by-cases, clash, and-true, both-true, same-true, same-of}
 use Rattle.rules.proofs.Lists.ByteLists.{bytes-take, bytes-drop}
 use Rattle.walks.specs.Entries.{entry-at}
-use Rattle.walks.proofs.Joined.{and-assoc}
+use Rattle.walks.proofs.Joined.{same-parts}
 use Rattle.entry_rules.specs.Inner.Padding.{is-zero, padded, fields-differ}
 
 -- ---- the zeros after a name
@@ -119,16 +119,6 @@ same-numbers (x ∷ xs) (y ∷ ys) hx hy l =
     byte-first x y (little-endian xs) (little-endian ys) (hx 0) (hy 0)
     ∙ rw (same-numbers xs ys (λ i. hx (suc i)) (λ i. hy (suc i)) (omega arith))
 
-same-halves : (n : ℕ) (xs ys : List ℕ)
-    → length xs ≡ length ys
-    → same xs ys ≡ same (take n xs) (take n ys) && same (drop n xs) (drop n ys)
-unfolding same
-same-halves zero xs ys l = refl
-same-halves (suc n) [] [] l = refl
-same-halves (suc n) [] (y ∷ ys) l = absurd (omega arith)
-same-halves (suc n) (x ∷ xs) [] l = absurd (omega arith)
-same-halves (suc n) (x ∷ xs) (y ∷ ys) l = rw (same-halves n xs ys (omega arith), and-assoc)
-
 -- the last 8 of 16 bytes
 last-half : (x : List ℕ) → length x ≡ 16 → take 8 (drop 8 x) ≡ drop 8 x
 last-half x h = take-all 8 (drop 8 x) (simp length-drop (omega arith))
@@ -143,7 +133,7 @@ unfolding field
 same-by-words x y bx by hx hy =
     let front = same-numbers (take 8 x) (take 8 y) (bytes-take 8 x bx) (bytes-take 8 y by) (simp length-take (omega arith)) in
     let back = same-numbers (drop 8 x) (drop 8 y) (bytes-drop 8 x bx) (bytes-drop 8 y by) (simp length-drop (omega arith)) in
-    rw (last-half x hx, last-half y hy, front, back) (same-halves 8 x y (hx ∙ sym hy))
+    rw (last-half x hx, last-half y hy, front, back) (same-parts 8 x y (hx ∙ sym hy))
 
 pub name-bytes : (t : List ℕ) (i : ℕ) → Bytes t → Bytes (entry-at t i .name-field)
 unfolding entry-at entry

@@ -7,15 +7,14 @@ use super::ranges;
 use rules::EntryNo;
 ghost use mathlib.Core.Path.{_≡_};
 ghost use Prim.Native.Nat.{_+_, _≤_, _<_};
-ghost use lib.ListN.{length, drop};
+ghost use lib.ListN.{drop};
 ghost use Rattle.rules.specs.Lists.{all, first-failing, first-clash};
-ghost use Rattle.rules.specs.Bytes.{block-size};
 ghost use Rattle.rules.specs.Table.{rows};
-ghost use Rattle.walks.specs.Entries.{entry-at, most-entries, HasEntries};
+ghost use Rattle.walks.specs.Entries.{HasEntries, HasEntry, HasBoth, entry-at};
 ghost use Rattle.entry_rules.specs.Inner.Rules.{keeps, divisor, both-keep, entries-before};
 
 fn entry_keeps(rule: Rule, table: &[u8], e: EntryNo) -> bool
-    requires { ⌜ ((length (now table) ≡ block-size) × (e .0 < most-entries)) × (0 < divisor rule) ⌝ }
+    requires { ⌜ HasEntry (now table) (e .0) × (0 < divisor rule) ⌝ }
     ensures { λ r. ⌜ r ≡ keeps rule (entry-at (now (table .entry)) (e .0)) ⌝ }
 {
     match rule {
@@ -30,7 +29,7 @@ fn entry_keeps(rule: Rule, table: &[u8], e: EntryNo) -> bool
 }
 
 fn pair_keeps(rule: PairRule, table: &[u8], d: EntryNo, e: EntryNo) -> bool
-    requires { ⌜ (length (now table) ≡ block-size) × ((d .0 < most-entries) × (e .0 < most-entries)) ⌝ }
+    requires { ⌜ HasBoth (now table) (d .0) (e .0) ⌝ }
     ensures { λ r. ⌜ r
         ≡ both-keep rule (entry-at (now (table .entry)) (d .0)) (entry-at (now (table .entry)) (e .0)) ⌝ }
 {
@@ -76,7 +75,7 @@ pub fn first_clash(rule: PairRule, table: &[u8], n: usize, from: EntryNo) -> Ent
 
 // An entry keeps the rule with each earlier one.
 fn earlier_keep(rule: PairRule, table: &[u8], e: EntryNo) -> bool
-    requires { ⌜ (length (now table) ≡ block-size) × (e .0 < most-entries) ⌝ }
+    requires { ⌜ HasEntry (now table) (e .0) ⌝ }
     ensures { λ r. ⌜ r
         ≡ all (λ d. both-keep rule d (entry-at (now (table .entry)) (e .0))) (entries-before (now (table .entry)) (e .0)) ⌝ }
 {

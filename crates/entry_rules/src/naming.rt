@@ -6,16 +6,15 @@ use rules::EntryNo;
 ghost use mathlib.Core.Path.{_≡_};
 ghost use mathlib.Core.List.{[]};
 ghost use Prim.Native.Nat.{_<_};
-ghost use lib.ListN.{length, drop};
+ghost use lib.ListN.{drop};
 ghost use Rattle.rules.specs.Lists.{all, first-clash};
-ghost use Rattle.rules.specs.Bytes.{block-size};
 ghost use Rattle.rules.specs.Table.{rows, name-right, names-differ};
-ghost use Rattle.walks.specs.Entries.{entry-at, most-entries, HasEntries};
+ghost use Rattle.walks.specs.Entries.{HasEntries, HasEntry, HasBoth, entry-at};
 ghost use Rattle.entry_rules.specs.Inner.Padding.{is-zero, padded, fields-differ};
 
 // Rule 3: the name has at least one byte before a zero within the 16.
 pub fn name_is_right(table: &[u8], e: EntryNo) -> bool
-    requires { ⌜ (length (now table) ≡ block-size) × (e .0 < most-entries) ⌝ }
+    requires { ⌜ HasEntry (now table) (e .0) ⌝ }
     ensures { λ r. ⌜ r ≡ name-right (entry-at (now (table .entry)) (e .0)) ⌝ }
 {
     let n = names::name_length(entries::entry_name(table, e));
@@ -24,7 +23,7 @@ pub fn name_is_right(table: &[u8], e: EntryNo) -> bool
 
 // Rule 4: the names differ.
 pub fn names_differ(table: &[u8], d: EntryNo, e: EntryNo) -> bool
-    requires { ⌜ (length (now table) ≡ block-size) × ((d .0 < most-entries) × (e .0 < most-entries)) ⌝ }
+    requires { ⌜ HasBoth (now table) (d .0) (e .0) ⌝ }
     ensures { λ r. ⌜ r ≡ names-differ (entry-at (now (table .entry)) (d .0)) (entry-at (now (table .entry)) (e .0)) ⌝ }
 {
     !names::same_name(entries::entry_name(table, d), entries::entry_name(table, e))
@@ -45,7 +44,7 @@ pub fn first_same(table: &[u8], n: usize) -> EntryNo
 
 // The name is followed by zeros alone.
 pub fn name_is_padded(table: &[u8], e: EntryNo) -> bool
-    requires { ⌜ (length (now table) ≡ block-size) × (e .0 < most-entries) ⌝ }
+    requires { ⌜ HasEntry (now table) (e .0) ⌝ }
     ensures { λ r. ⌜ r ≡ padded (entry-at (now (table .entry)) (e .0)) ⌝ }
 {
     let name = entries::entry_name(table, e);
@@ -68,7 +67,7 @@ fn is_zero_from(s: &[u8], from: usize) -> bool
 
 // The name fields differ: mostly their first eight bytes do.
 pub fn fields_differ(table: &[u8], d: EntryNo, e: EntryNo) -> bool
-    requires { ⌜ (length (now table) ≡ block-size) × ((d .0 < most-entries) × (e .0 < most-entries)) ⌝ }
+    requires { ⌜ HasBoth (now table) (d .0) (e .0) ⌝ }
     ensures { λ r. ⌜ r ≡ fields-differ (entry-at (now (table .entry)) (d .0)) (entry-at (now (table .entry)) (e .0)) ⌝ }
 {
     let x = entries::entry_name(table, d);

@@ -6,11 +6,9 @@ ghost use mathlib.Core.Path.{_≡_};
 ghost use mathlib.Core.Bool.{true};
 ghost use mathlib.Core.List.{[]};
 ghost use Prim.Native.Nat.{_≤_, _<_};
-ghost use lib.ListN.{length};
 ghost use Rattle.rules.specs.Lists.{first-clash};
-ghost use Rattle.rules.specs.Bytes.{block-size};
 ghost use Rattle.rules.specs.Table.{rows, range-aligned, range-inside, ranges-apart};
-ghost use Rattle.walks.specs.Entries.{entry-at, most-entries, HasEntries};
+ghost use Rattle.walks.specs.Entries.{HasEntries, HasEntry, HasBoth, entry-at};
 ghost use Rattle.entry_rules.specs.Inner.Ascending.{ends-before, ascend};
 
 // The unit of every start and length.
@@ -18,7 +16,7 @@ const UNIT: u64 = rules::BLOCK_SIZE as u64;
 
 // Rule 5: start and length are multiples of 4,096 and length is not 0.
 pub fn range_is_aligned(table: &[u8], e: EntryNo) -> bool
-    requires { ⌜ (length (now table) ≡ block-size) × (e .0 < most-entries) ⌝ }
+    requires { ⌜ HasEntry (now table) (e .0) ⌝ }
     ensures { λ r. ⌜ r ≡ range-aligned (entry-at (now (table .entry)) (e .0)) ⌝ }
 {
     let start = entries::entry_start(table, e);
@@ -28,7 +26,7 @@ pub fn range_is_aligned(table: &[u8], e: EntryNo) -> bool
 
 // Rule 6: start plus length is at most the image length.
 pub fn range_is_inside(table: &[u8], e: EntryNo, len: u64) -> bool
-    requires { ⌜ (length (now table) ≡ block-size) × (e .0 < most-entries) ⌝ }
+    requires { ⌜ HasEntry (now table) (e .0) ⌝ }
     ensures { λ r. ⌜ r ≡ range-inside len (entry-at (now (table .entry)) (e .0)) ⌝ }
 {
     fields::bounds::ends_by(
@@ -40,7 +38,7 @@ pub fn range_is_inside(table: &[u8], e: EntryNo, len: u64) -> bool
 
 // The range of an entry ends where that of another begins, or before.
 fn ends_before(table: &[u8], d: EntryNo, e: EntryNo) -> bool
-    requires { ⌜ (length (now table) ≡ block-size) × ((d .0 < most-entries) × (e .0 < most-entries)) ⌝ }
+    requires { ⌜ HasBoth (now table) (d .0) (e .0) ⌝ }
     ensures { λ r. ⌜ r ≡ ends-before (entry-at (now (table .entry)) (d .0)) (entry-at (now (table .entry)) (e .0)) ⌝ }
 {
     fields::bounds::ends_by(
@@ -52,7 +50,7 @@ fn ends_before(table: &[u8], d: EntryNo, e: EntryNo) -> bool
 
 // Rule 7: the ranges do not overlap.
 pub fn ranges_are_apart(table: &[u8], d: EntryNo, e: EntryNo) -> bool
-    requires { ⌜ (length (now table) ≡ block-size) × ((d .0 < most-entries) × (e .0 < most-entries)) ⌝ }
+    requires { ⌜ HasBoth (now table) (d .0) (e .0) ⌝ }
     ensures { λ r. ⌜ r ≡ ranges-apart (entry-at (now (table .entry)) (d .0)) (entry-at (now (table .entry)) (e .0)) ⌝ }
 {
     ends_before(table, d, e) | ends_before(table, e, d)

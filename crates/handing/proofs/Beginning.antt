@@ -13,15 +13,15 @@ use Rattle.rules.specs.declared.Step.{Step}
 use Rattle.rules.proofs.Lists.Tests.{by-cases}
 use Rattle.jobs.specs.declared.Plan.{Plan}
 use Rattle.jobs.specs.declared.Job.{Job}
+use Rattle.jobs.proofs.Typed.{Typed}
 use Rattle.blocks.specs.Made.{Lists}
 use Rattle.commands.specs.Begins.{begins, start-result}
 use Rattle.commands.specs.declared.StartResult.{StartResult}
-use Rattle.commands.proofs.StartLists.{start-lists}
+use Rattle.commands.proofs.StartLists.{start-lists, start-typed}
 use Rattle.job_bytes.specs.Form.{job-size, malformed, decoded, job-over, encoded-over, Same}
-use Rattle.job_bytes.proofs.RoundTrip.{Typed, decoded-encoded}
+use Rattle.job_bytes.proofs.RoundTrip.{decoded-encoded}
 use Rattle.job_bytes.proofs.JobOver.{fitting, same-steps, typed-over}
 use Rattle.handing.specs.Begun.{Handed, handed, handed-over, started-into, for-job, begun-as}
-use Rattle.handing.proofs.StartTyped.{start-typed}
 
 -- ---- what a function for C returns and leaves
 

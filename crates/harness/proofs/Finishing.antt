@@ -1,10 +1,9 @@
 -- A start that is run to its end does all its listed steps: it is never refused 12. Assumes nothing.
 use mathlib.Core.Path.{_≡_, refl, sym, ap, _∙_}
-use mathlib.Core.Bool.{true}
 use mathlib.Core.List.{List, [], _∷_}
 use Prim.Native.Nat.{ℕ, zero, suc}
 use native.Mathlib.Omega.{arith}
-use borrow.Author.Tests.{ltb-true, lt-ltb}
+use borrow.Author.Tests.{lt-ltb}
 use lib.Dec.{ltb}
 use lib.ListN.{length}
 use lib.Seq.{take-length}
@@ -18,7 +17,7 @@ use Rattle.rules.specs.Steps.{steps}
 use Rattle.rules.specs.Cuts.{Progress, run, runs}
 use Rattle.rules.specs.Book.{name-bytes}
 use Rattle.rules.specs.declared.Step.{Step}
-use Rattle.rules.proofs.Lists.Tests.{and-true}
+use Rattle.rules.proofs.Lists.ByteLists.{bytes-by-test}
 use Rattle.rules.proofs.Claim.Bridge.{never-refused-12}
 use Rattle.jobs.specs.Jobs.{under-way, admitted, steps-done, ran, progress-after, steps-left}
 use Rattle.jobs.specs.declared.Job.{Job}
@@ -28,7 +27,7 @@ use Rattle.blocks.specs.Made.{Lists}
 use Rattle.commands.specs.Begins.{command-of, begins}
 use Rattle.commands.specs.declared.StartResult.{StartResult}
 use Rattle.commands.specs.declared.Command.{Command as Asked}
-use Rattle.commands.specs.declared.Command.the-variants.{Enable, Disable, Rename, Create, Delete, Repair}
+use Rattle.commands.proofs.NameLent.{bytes-lent}
 use Rattle.drafts.specs.declared.Outcome.the-variants.{Started, Refused as Not-started}
 use Rattle.book.specs.Kept.{new-name}
 use Rattle.harness.specs.Finished.{finished, left-finished, told, done-by, left-by, done-after, left-after, done-begun, left-begun}
@@ -37,24 +36,12 @@ use Rattle.harness.specs.declared.Done.the-variants.{Refused}
 
 -- ---- the name is of bytes
 
-bytes-by-test : (bs : List ℕ) → all (λ b. ltb b 256) bs ≡ true → Bytes bs
-unfolding all
-bytes-by-test [] h i = omega arith
-bytes-by-test (b ∷ bs) h zero = ltb-true b 256 (and-true (ltb b 256) (all (λ b. ltb b 256) bs) h .0)
-bytes-by-test (b ∷ bs) h (suc i) = bytes-by-test bs (and-true (ltb b 256) (all (λ b. ltb b 256) bs) h .1) i
-
 name-of-bytes : Bytes new-name
 unfolding all
 name-of-bytes = bytes-by-test new-name refl
 
 pub names-of-bytes : (c : Asked) → name-bytes (command-of c new-name)
-unfolding name-bytes command-of
-names-of-bytes (Enable k) = tt
-names-of-bytes (Disable k) = tt
-names-of-bytes (Rename k) = name-of-bytes
-names-of-bytes (Create size) = name-of-bytes
-names-of-bytes (Delete k) = tt
-names-of-bytes Repair = tt
+names-of-bytes c = bytes-lent c new-name name-of-bytes
 
 -- ---- what the code does with a run and with a start
 

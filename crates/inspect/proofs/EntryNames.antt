@@ -16,7 +16,7 @@ use Rattle.rules.specs.Readers.{table-of, table-part}
 use Rattle.rules.specs.declared.View.{View}
 use Rattle.rules.specs.declared.SlotInfo.{SlotInfo}
 use Rattle.rules.specs.Lists.{all}
-use Rattle.rules.proofs.Lists.Tests.{and-true, by-cases, refused-given}
+use Rattle.rules.proofs.Lists.Tests.{and-true, refused-given}
 use Rattle.rules.proofs.Lists.Combinators.{all-at}
 use Rattle.rules.proofs.Table.Standing.{standing}
 use Rattle.views.proofs.Seen.{seen, table-read-stands}

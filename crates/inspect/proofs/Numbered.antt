@@ -2,7 +2,7 @@
 use mathlib.Core.Path.{_≡_, sym, _∙_}
 use mathlib.Core.Bool.{true, false}
 use mathlib.Core.List.{List}
-use Prim.Native.Nat.{ℕ, _+_, _≤_, _<_}
+use Prim.Native.Nat.{ℕ, _≤_, _<_}
 use native.Mathlib.Omega.{arith}
 use borrow.Author.Tests.{lt-ltb, le-ltb}
 use lib.ListN.{length, drop}
@@ -11,7 +11,7 @@ use Rattle.rules.specs.Pointers.{place-count, erased-value}
 use Rattle.rules.proofs.Table.Standing.{length-entries-from}
 use Rattle.walks.specs.Entries.{entry-at}
 use Rattle.walks.proofs.Entries.{entry-of-rows}
-use Rattle.places.specs.Inner.Added.{place-value}
+use Rattle.places.specs.Inner.Values.{place-value}
 use Rattle.places.proofs.Values.{value-at}
 use Rattle.inspect.specs.Entries.{entry-there, entry-of}
 use Rattle.inspect.specs.Places.{value-of}

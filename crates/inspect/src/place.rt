@@ -22,7 +22,7 @@ pub fn place_total(image: &[u8], setting: Setting) -> Total
         Viewed::Refused(why) => Total::Refused(why),
         Viewed::At(v) => {
             let at = v.pointers;
-            let places = places::places_of(fields::block_at(image, at));
+            let places = place_walks::places_of(fields::block_at(image, at));
             Total::Is(places.count)
         }
     }
@@ -49,7 +49,7 @@ fn held_in(t: &[u8], p: &[u8], place: PlaceNo) -> Holding
     requires { ⌜ HasEntries (now t) (entry-count (now t)) × StandingPointers (now p) ⌝ }
     ensures { λ r. ⌜ holding r ≡ held-in (now (t .entry)) (now (p .entry)) (place .0) ⌝ }
 {
-    let places = places::places_of(p);
+    let places = place_walks::places_of(p);
     if places.count <= place.0 {
         return Holding::Refused(NO_SUCH_PLACE);
     }

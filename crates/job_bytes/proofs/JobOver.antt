@@ -17,7 +17,7 @@ use Rattle.job_bytes.specs.Form.{job-size, value-at, places-at, first-bl
 use Rattle.job_bytes.specs.Form.{job-from, block-over, meant-size, job-over, encoded-over, Same}
 use Rattle.job_bytes.proofs.Numbers.{length-numbers}
 use Rattle.job_bytes.specs.Inner.Fitting.{Fitting}
-use Rattle.job_bytes.proofs.RoundTrip.{Typed}
+use Rattle.jobs.proofs.Typed.{Typed}
 use Rattle.job_bytes.proofs.Filling.{length-stretch, none-filled, fill-put, fill-kept, unfilled, all-filled}
 
 -- ---- the same steps

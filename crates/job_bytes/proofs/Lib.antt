@@ -2,5 +2,4 @@ pub mod Numbers
 pub mod RoundTrip
 pub mod Filling
 pub mod JobOver
-pub mod Advancing
 pub mod Examples

@@ -15,25 +15,12 @@ use Rattle.jobs.specs.Jobs.{place-room}
 use Rattle.jobs.specs.declared.Kind.{Kind}
 use Rattle.jobs.specs.declared.Kind.the-variants.{Nothing, Rewrite, Places}
 use Rattle.jobs.specs.declared.Job.{Job}
+use Rattle.jobs.proofs.Typed.{Typed}
 use Rattle.job_bytes.specs.Form.{len-at, granule-at, count-at, done-at, offset-at, first-address-at, second-address-at}
 use Rattle.job_bytes.specs.Form.{first-kind-at, second-kind-at, value-at, places-at, first-block-at, second-block-at}
 use Rattle.job_bytes.specs.Form.{job-size, kind-number, kind-numbered, sizes-encoded, addresses-encoded, kinds-encoded, numbers-encoded, encoded}
 use Rattle.job_bytes.specs.Form.{plan-from, job-from, holds-job, decoded}
 use Rattle.job_bytes.proofs.Numbers.{field-read, behind}
-
--- what the types of a job's fields say of their values
-pub record Typed (j : Job) : Type 0 where
-  pub len : j .plan .len < 2 ^ 64
-  pub granule : j .plan .granule < 2 ^ 64
-  pub count : j .plan .count < 2 ^ 64
-  pub done : j .done < 2 ^ 64
-  pub offset : j .plan .offset < 2 ^ 32
-  pub at : j .plan .at < 2 ^ 32
-  pub after : j .plan .after < 2 ^ 32
-  pub value : length (j .value) ≡ 8
-  pub places : length (j .places) ≡ 2 * place-room
-  pub first : length (j .first) ≡ block-size
-  pub second : length (j .second) ≡ block-size
 
 -- ---- kinds
 

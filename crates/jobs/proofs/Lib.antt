@@ -2,3 +2,4 @@ pub mod ListedSteps
 pub mod Running
 pub mod Counting
 pub mod Examples
+pub mod Typed

@@ -6,7 +6,7 @@ use Prim.Native.Nat.{ℕ, _≤_}
 use native.Mathlib.Omega.{arith}
 use borrow.Author.Tests.{le-leb}
 use lib.Dec.{leb}
-use lib.ListN.{length, take, drop, replicate, length-replicate}
+use lib.ListN.{length, drop, replicate, length-replicate}
 use lib.Seq.{take-at}
 use Rattle.rules.specs.Answers.{Answer, refused, given, unless, _>>=_, numbered}
 use Rattle.rules.specs.declared.Setting.{Setting}

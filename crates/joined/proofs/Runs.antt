@@ -17,7 +17,7 @@ use Rattle.jobs.specs.declared.Job.{Job}
 use Rattle.jobs.specs.declared.Plan.{Plan}
 use Rattle.jobs.specs.declared.Ran.{Ran}
 use Rattle.blocks.specs.Made.{Lists, no-job}
-use Rattle.blocks.proofs.JobSteps.{no-steps-lists}
+use Rattle.blocks.proofs.JobSteps.{no-job-sound}
 use Rattle.joined.specs.Runs.{Run, all-ran, left-by-runs}
 
 abbrev pub budgets-of : List Run → List ℕ
@@ -91,15 +91,11 @@ unfolding runs
 runs-of-none g [] img = refl
 runs-of-none g (n ∷ ns) img = rw (run-of-none g n img) (runs-of-none g ns img)
 
-no-job-lists : Lists no-job 0 0 []
-unfolding no-job
-no-job-lists = no-steps-lists 0 0
-
 pub nothing-done : (img : List ℕ) (rs : List Run)
     → all-ran no-job img rs
     → left-by-runs no-job img rs ≡ started-with img []
 nothing-done img rs went =
-    from-progress 0 0 rs no-job img (started-with img []) (unfold under-way in rw (no-job-lists .steps))
-    (no-job-lists .same-len) (no-job-lists .same-granule)
+    from-progress 0 0 rs no-job img (started-with img []) (unfold under-way in rw (no-job-sound .lists .steps))
+    (no-job-sound .lists .same-len) (no-job-sound .lists .same-granule)
     (λ ns. rw (runs-of-none 0 ns img) (unfold may-run unless in refl)) went
     ∙ runs-of-none 0 (budgets-of rs) img

@@ -15,19 +15,16 @@ use Rattle.rules.specs.declared.Step.{Step}
 use Rattle.rules.proofs.Lists.Tests.{given-inj, unless-given}
 use Rattle.jobs.specs.Jobs.{under-way, admitted, steps-done, advanced, ran, progress-after, ran-by, did-by-run, image-after-run}
 use Rattle.jobs.specs.declared.Job.{Job}
-use Rattle.jobs.specs.declared.Did.{Did}
 use Rattle.jobs.specs.declared.Did.the-variants.{Steps, Refused}
-use Rattle.jobs.specs.declared.Ran.{Ran}
 use Rattle.jobs.proofs.Running.{run-returned}
 use Rattle.blocks.specs.Made.{Lists, no-job}
-use Rattle.commands.specs.declared.StartResult.{StartResult}
 use Rattle.job_bytes.specs.Form.{job-size, malformed, job-from, holds-job, decoded}
 use Rattle.handing.specs.Begun.{for-job, begun-as}
-use Rattle.codes.specs.Ran.{Lent, lent, Running, running, ran-as}
-use Rattle.joined.specs.Runs.{Run, all-ran}
-use Rattle.joined.specs.Items.{Carried, begun-so, carried-out, flash-left, all-carried-out}
+use Rattle.codes.specs.Ran.{lent, running, ran-as}
+use Rattle.joined.specs.Runs.{all-ran}
+use Rattle.joined.specs.Items.{begun-so, carried-out, flash-left, all-carried-out}
 use Rattle.joined_for_c.specs.Items.{RunForC, all-ran-for-c, CarriedForC, begun-for-c, runs-after, carried-out-for-c, did-by, run-by-value, begun-by-value, by-value, all-carried-out-for-c}
-use Rattle.joined_for_c.proofs.RefusalNumbers.{NotZero, start-not-zero, run-not-zero, Plain, run-plain}
+use Rattle.rules.proofs.Claim.RefusalNumbers.{NotZero, start-not-zero, run-not-zero, Plain, run-plain}
 
 -- ---- a buffer that holds a job
 

@@ -1,4 +1,3 @@
-pub mod RefusalNumbers
 pub mod ByValue
 pub mod Readers
 pub mod Theorem

@@ -1,15 +1,14 @@
 -- The readers for C tell the book's reading. Assumes nothing.
-use mathlib.Core.Path.{_≡_, refl, sym, ap, _∙_, subst}
+use mathlib.Core.Path.{_≡_, ap}
 use mathlib.Core.List.{List}
-use Prim.Native.Nat.{ℕ, _≤_}
+use Prim.Native.Nat.{ℕ}
 use lib.ListN.{length}
-use Rattle.rules.specs.Answers.{Answer, given, _>>=_}
+use Rattle.rules.specs.Answers.{given, _>>=_}
 use Rattle.rules.specs.declared.Setting.{Setting}
 use Rattle.rules.specs.Copies.{view}
-use Rattle.rules.specs.Readers.{order-list, slot-count, slot-info, slot-name, table-of, table-part}
+use Rattle.rules.specs.Readers.{slot-count, slot-info, slot-name, table-of, table-part}
 use Rattle.rules.specs.Book.{Reading, read-by, reading}
 use Rattle.rules.proofs.Lists.Tests.{bind-given, given-inj}
-use Rattle.linked.specs.Answered.{Written}
 use Rattle.joined.proofs.ReadBack.{order-there}
 use Rattle.joined_for_c.specs.Claim.{AnswersForC}
 

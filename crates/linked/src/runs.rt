@@ -33,10 +33,10 @@ pub extern "C" fn delunkpawi_remaining(job: &[u8], count: &mut usize) -> u8
         × (now (count .exit) ≡ kept steps-left (decoded (now (job .entry))) (now (count .entry)))
         ⌝ }
 {
-    if !job_bytes::held::is_job(job) {
+    if !held_jobs::is_job(job) {
         return NOT_A_JOB;
     }
-    *count = job_bytes::held::remaining(job);
+    *count = held_jobs::remaining(job);
     0
 }
 
@@ -59,10 +59,10 @@ pub extern "C" fn delunkpawi_next_step(
         now (byte .exit) ≡ kept (λ j. step-byte (next-of j)) (decoded (now (job .entry))) (now (byte .entry))
         ⌝ }
 {
-    if !job_bytes::held::is_job(job) {
+    if !held_jobs::is_job(job) {
         return NOT_A_JOB;
     }
-    let code = codes::steps::step_code(job_bytes::held::next_step(job));
+    let code = codes::steps::step_code(held_jobs::next_step(job));
     *kind = code.kind;
     *address = code.address;
     *byte = code.byte;

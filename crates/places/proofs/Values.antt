@@ -11,7 +11,7 @@ use Rattle.rules.proofs.Lists.Words.{length-values}
 use Rattle.rules.proofs.Pointers.PointerHeader.{places-fit}
 use Rattle.walks.proofs.Rows.{rows-turn}
 use Rattle.places.specs.Inner.StandingPointers.{StandingPointers}
-use Rattle.places.specs.Inner.Added.{place-value}
+use Rattle.places.specs.Inner.Values.{place-value}
 
 -- ---- by number
 

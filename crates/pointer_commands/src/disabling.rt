@@ -1,10 +1,10 @@
 // Disable, once the view of the flash is known.
 use blocks::Target;
 use blocks::made;
-use blocks::packing;
 use blocks::tables;
 use drafts::Draft;
 use drafts::Outcome;
+use pointer_blocks::packing;
 use rules::Setting;
 use rules::SlotNo;
 use rules::View;

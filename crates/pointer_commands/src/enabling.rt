@@ -1,12 +1,12 @@
 // Enable, once the view of the flash is known.
 use blocks::Target;
 use blocks::made;
-use blocks::packing;
-use blocks::pointers;
 use blocks::tables;
 use drafts::Draft;
 use drafts::Outcome;
 use places::Places;
+use pointer_blocks::packing;
+use pointer_blocks::pointers;
 use rules::Setting;
 use rules::SlotNo;
 use rules::View;
@@ -21,7 +21,7 @@ ghost use Rattle.rules.specs.Answers.{given};
 ghost use Rattle.rules.specs.Table.{starts};
 ghost use Rattle.rules.specs.Copies.{view};
 ghost use Rattle.rules.specs.Commands.{enough-places, enable};
-ghost use Rattle.blocks.specs.Inner.Walked.{Readable};
+ghost use Rattle.pointer_blocks.specs.Inner.Walked.{Readable};
 ghost use Rattle.drafts.specs.JobFor.{enable-job, job-by};
 ghost use Rattle.drafts.specs.Inner.Drafted.{Drafts, Means};
 
@@ -45,7 +45,7 @@ pub fn enable_by(image: &[u8], setting: Setting, v: View, slot: SlotNo, room: &m
             }
             let pointers_at = v.pointers;
             let p = fields::block_at(image, pointers_at);
-            let places = places::places_of(p);
+            let places = place_walks::places_of(p);
             if !packing::enough_places(t, rows, p, places, slot) {
                 return Draft::Refused(NO_PLACE_LEFT);
             }

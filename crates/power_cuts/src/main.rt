@@ -60,11 +60,7 @@ fn copy(from: &[u8], to: &mut [u8]) {
     if from.len() != to.len() {
         return;
     }
-    let mut i = 0;
-    while i < to.len() {
-        to[i] = from[i];
-        i += 1;
-    }
+    fields::stores::copy(to, 0, from);
 }
 
 // The flash, with a choice of the granule at an address wiped, and what it reads as.

@@ -1,2 +1,2 @@
 pub mod Quarry
-pub mod Cases
+pub mod Rows

@@ -1,2 +1,1 @@
-// The quarry image and its cases, by the definitions alone. There is no code: the table of cases is under specs/, and
-// under proofs/ its one statement.
+// The quarry image, and what a row of a case says, by the definitions alone. There is no code.

@@ -195,7 +195,8 @@ fn on_image(title: &[u8], path: &[u8], case: Case) {
     run_case(case, &mut image[..n]);
 }
 
-fn main() {
+// Cases 1 to 6: the order, single places, a cut.
+fn the_order_and_places() {
     on_image(b"case 1\n", b"quarry.img", Case::OrderOnly);
     on_image(
         b"case 2\n",
@@ -206,6 +207,10 @@ fn main() {
     on_image(b"case 4\n", b"quarry_sent.img", Case::EnableThenDisable);
     on_image(b"case 5\n", b"quarry.img", Case::RefusedSlots);
     on_image(b"case 6\n", b"quarry_sent.img", Case::CutThenRepaired);
+}
+
+// Cases 7 to 9: the last place, a rewrite cut, half-cleared starts.
+fn rewrites() {
     on_image(
         b"case 7, highest used place 506\n",
         b"highest_506.img",
@@ -228,6 +233,10 @@ fn main() {
     );
     on_image(b"case 9, slot 0\n", b"moved.img", Case::Disable(SlotNo(0)));
     on_image(b"case 9, slot 1\n", b"moved.img", Case::Disable(SlotNo(1)));
+}
+
+// Case 10: names, and tables of many entries.
+fn names_and_tables() {
     on_image(b"case 10, names\n", b"quarry.img", Case::Names);
     on_image(
         b"case 10, 127 entries\n",
@@ -240,6 +249,10 @@ fn main() {
         Case::OrderOnly,
     );
     on_image(b"case 10, 0 bytes\n", b"no_bytes.img", Case::OrderOnly);
+}
+
+// Document 02, Nos. 2, 9 and 5.
+fn of_document_02() {
     on_image(b"empty slots\n", b"quarry.img", Case::EmptySlots);
     on_image(
         b"a slot of which only byte 4,095 was sent\n",
@@ -272,4 +285,11 @@ fn main() {
         b"held.img",
         Case::Created(EntryNo(8)),
     );
+}
+
+fn main() {
+    the_order_and_places();
+    rewrites();
+    names_and_tables();
+    of_document_02();
 }

@@ -24,7 +24,7 @@ pub fn list_order(t: &[u8], p: &[u8], row: &mut [u32]) -> Listed
         (order-in (order-by (now (t .entry)) (now (p .entry))) (length (now (row .entry)))) (now (row .entry)) ⌝ }
 {
     let rows = slots::rows_of(t);
-    let places = places::places_of(p);
+    let places = place_walks::places_of(p);
     if !has_room(t, rows, p, places, row.len()) {
         return Listed::Refused(ROW_TOO_SHORT);
     }

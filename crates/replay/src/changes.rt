@@ -3,6 +3,7 @@ use super::desk;
 use super::desk::Desk;
 use fields::bounds::min;
 use fields::bounds::part_of;
+use fields::stores;
 use rules::Setting;
 use script::Change;
 ghost use Prim.Native.Nat.{_+_, _≤_, _<_};
@@ -20,19 +21,11 @@ pub fn change(desk: Desk, room: &mut [u8], asked: Change, line: &[u8]) -> Desk {
     }
 }
 
-pub fn fill(bytes: &mut [u8], byte: u8) {
-    let mut i = 0;
-    while i < bytes.len() {
-        bytes[i] = byte;
-        i += 1;
-    }
-}
-
 fn new_image(desk: Desk, room: &mut [u8], length: usize, byte: u8) -> Desk {
     if room.len() < length {
         return desk::error(desk);
     }
-    fill(&mut room[0..length], byte);
+    stores::fill(&mut room[0..length], byte);
     desk::without_job(desk::with_length(desk, length))
 }
 
@@ -41,7 +34,7 @@ fn new_length(desk: Desk, room: &mut [u8], length: usize) -> Desk {
         return desk::error(desk);
     }
     let kept = min(desk.length, length);
-    fill(&mut room[kept..length], ERASED);
+    stores::fill(&mut room[kept..length], ERASED);
     desk::with_length(desk, length)
 }
 

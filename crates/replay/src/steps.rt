@@ -100,7 +100,7 @@ fn erase_next(job: Job, length: usize) -> Part {
 fn wipe(granule: &mut [u8], at: usize, n: usize) {
     let from = min(at, granule.len());
     let to = from + min(n, granule.len() - from);
-    changes::fill(&mut granule[from..to], changes::ERASED);
+    fields::stores::fill(&mut granule[from..to], changes::ERASED);
 }
 
 // The ranges are the line's last words, in pairs. Each only sets bytes to 0xFF, so the last may come first.

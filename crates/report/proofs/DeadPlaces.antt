@@ -1,12 +1,12 @@
 -- The dead places of a pointer block, walked from place 0 up. Assumes nothing.
-use mathlib.Core.Path.{_≡_, refl}
+use mathlib.Core.Path.{_≡_}
 use mathlib.Core.Bool.{Bool, true, false}
 use mathlib.Core.List.{List}
 use Prim.Native.Nat.{ℕ, _+_, _≤_, _<_}
 use lib.ListN.{drop}
 use Rattle.rules.specs.Lists.{any}
 use Rattle.rules.specs.Pointers.{place-count, places, judged, is-dead}
-use Rattle.places.specs.Inner.Added.{place-value}
+use Rattle.places.specs.Inner.Values.{place-value}
 use Rattle.places.proofs.Values.{place-turn, place-over}
 
 -- a place from place k on is dead

@@ -1,12 +1,11 @@
 -- The two blocks that are read, as code has them by where things are. Assumes nothing.
-use mathlib.Core.Path.{_≡_, refl, sym, ap, _∙_}
+use mathlib.Core.Path.{_≡_, sym, ap, _∙_}
 use mathlib.Core.List.{List, _++_}
 use Prim.Native.Nat.{ℕ, _≤_}
 use native.Mathlib.Omega.{arith}
 use lib.ListN.{length, take, drop, length-append}
 use lib.Seq.{take-at}
 use Rattle.rules.specs.Bytes.{block, block-size}
-use Rattle.rules.specs.Table.{entry-count}
 use Rattle.rules.specs.Copies.{order-by, boot-order}
 use Rattle.rules.specs.declared.View.{View}
 use Rattle.walks.specs.Entries.{most-entries}

@@ -9,7 +9,6 @@ ghost use Rattle.rules.specs.Table.{starts};
 ghost use Rattle.rules.specs.Pointers.{places as places-in, judged, is-dead};
 ghost use Rattle.slots.specs.Inner.RowsOf.{HasRows};
 ghost use Rattle.places.specs.Inner.PlacesOf.{HasPlaces};
-ghost use Rattle.places.specs.Inner.Added.{place-value};
 ghost use Rattle.text.specs.Put.{Put};
 ghost use Rattle.report.specs.Listing.{numbered, judged-line, dead-part, place-line, kind-word};
 

@@ -61,7 +61,7 @@ fn put_parts(image: &[u8], setting: Setting, v: View, out: &mut [u8]) -> usize
     let t = fields::block_at(image, v.table);
     let p = fields::block_at(image, v.pointers);
     let rows = slots::rows_of(t);
-    let places = places::places_of(p);
+    let places = place_walks::places_of(p);
     let mut row = [0u32; 127];
     let count = boot_order::write_order(t, rows, p, places, &mut row);
     let mut end = text::put_bytes(out, 0, b"order slot name start length\n");

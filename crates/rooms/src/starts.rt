@@ -72,7 +72,7 @@ fn held(p: &[u8], places: Places, v: u64) -> bool
     if v == places::place_value(p, places, PlaceNo(0)) {
         return true;
     }
-    places::occurs_above(p, places, PlaceNo(0), v)
+    place_walks::occurs_above(p, places, PlaceNo(0), v)
 }
 
 // The candidate itself where it may be the start, else the next one.

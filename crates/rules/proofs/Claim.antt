@@ -4,6 +4,8 @@ pub mod EveryJob
 pub mod OneItem
 pub mod JobRight
 pub mod StartedJob
+pub mod Passed
+pub mod RefusalNumbers
 pub mod Invariant
 pub mod Viewing
 pub mod Bridge

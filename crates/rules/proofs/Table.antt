@@ -3,6 +3,7 @@ pub mod SlotStarts
 pub mod PutName
 pub mod Replacing
 pub mod Renaming
+pub mod RowLengths
 pub mod RowBytes
 pub mod StartRule
 pub mod Creating

@@ -19,7 +19,6 @@ use Rattle.script.specs.Lines.{
   said,
   line-of,
 }
-use Rattle.script.specs.declared.Line.{Line}
 use Rattle.script.specs.declared.Line.the-variants.{Nothing, Change, Question, Command, Named, Steps, Error}
 use Rattle.script.specs.declared.Change.the-variants.{Image, Put}
 use Rattle.script.specs.declared.Question.the-variants.{Order, Listing}

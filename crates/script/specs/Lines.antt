@@ -3,7 +3,6 @@
 use mathlib.Core.Bool.{Bool, cond, _&&_}
 use mathlib.Core.List.{List, [], _∷_}
 use Prim.Native.Nat.{ℕ, _/_, _%_}
-use Prim.Native.String.{String}
 use lib.Dec.{eqb, leb}
 use Rattle.rules.specs.Lists.{same}
 use Rattle.rules.specs.declared.SlotNo.{SlotNo}

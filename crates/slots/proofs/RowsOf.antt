@@ -13,7 +13,7 @@ use Rattle.rules.specs.Table.{Entry, entry-count, rows, entries, is-slot, slots
 use Rattle.rules.specs.Readers.{slot-row}
 use Rattle.rules.proofs.Lists.Tests.{by-cases}
 use Rattle.rules.proofs.Lists.Combinators.{kept-no-more}
-use Rattle.rules.proofs.Table.Standing.{length-entries-from}
+use Rattle.rules.proofs.Table.Standing.{length-entries-from, length-entries}
 use Rattle.walks.specs.Last.{last-from}
 use Rattle.walks.proofs.Entries.{take-entries}
 use Rattle.walks.proofs.Last.{last-within, last-passes, kept-from}
@@ -23,10 +23,6 @@ use Rattle.slots.specs.declared.Rows.{Rows}
 use Rattle.rules.specs.declared.EntryNo.{EntryNo}
 
 -- ---- the counted entries
-
-pub length-entries : (t : List ℕ) → length (entries t) ≡ entry-count t
-unfolding entries
-length-entries t = length-entries-from (entry-count t) (drop 0x20 t)
 
 -- the first entries of a table are those of the counted ones
 pub first-entries : (t : List ℕ) (e : ℕ) → e ≤ entry-count t → take e (entries t) ≡ rows e t

@@ -6,12 +6,12 @@ ghost use mathlib.Core.Bool.{cond};
 ghost use Prim.Native.Nat.{_+_, _≤_, _<_};
 ghost use lib.ListN.{length, getD, drop};
 ghost use Rattle.rules.specs.Lists.{member};
-ghost use Rattle.rules.specs.Bytes.{block-size, up-to-zero};
+ghost use Rattle.rules.specs.Bytes.{up-to-zero};
 ghost use Rattle.rules.specs.Table.{entry-count, rows, entries, is-fixed-name, is-slot, slots};
 ghost use Rattle.rules.specs.Readers.{slot-row};
 ghost use Rattle.walks.specs.Find.{find};
 ghost use Rattle.walks.specs.Last.{last-from};
-ghost use Rattle.walks.specs.Entries.{entry-at, most-entries, HasEntries, slot-from};
+ghost use Rattle.walks.specs.Entries.{HasEntries, HasEntry, entry-at, slot-from};
 ghost use Rattle.slots.specs.Inner.Initials.{initials};
 ghost use Rattle.slots.specs.Inner.RowsOf.{slots-before, rows-of, HasRows};
 
@@ -53,7 +53,7 @@ fn begins_fixed(name: &[u8]) -> bool
 
 // The entry is an application slot: flag bits 0 and 1 clear and a name other than the six.
 pub fn is_slot(table: &[u8], e: EntryNo) -> bool
-    requires { ⌜ (length (now table) ≡ block-size) × (e .0 < most-entries) ⌝ }
+    requires { ⌜ HasEntry (now table) (e .0) ⌝ }
     ensures { λ r. ⌜ r ≡ is-slot (entry-at (now (table .entry)) (e .0)) ⌝ }
 {
     if entries::entry_flags(table, e) % 4 != 0 {
@@ -133,7 +133,7 @@ pub fn slot_row(table: &[u8], n: usize, slot: SlotNo) -> EntryNo
 // The entry is a slot that starts there. The start is compared first: most entries differ in it, and the names, of
 // which `is_slot` compares six, then need no look.
 fn is_slot_from(table: &[u8], e: EntryNo, start: u64) -> bool
-    requires { ⌜ (length (now table) ≡ block-size) × (e .0 < most-entries) ⌝ }
+    requires { ⌜ HasEntry (now table) (e .0) ⌝ }
     ensures { λ r. ⌜ r ≡ slot-from start (entry-at (now (table .entry)) (e .0)) ⌝ }
 {
     if entries::entry_start(table, e) != start {

@@ -8,14 +8,14 @@ use lib.Dec.{ltb}
 use borrow.Author.Tests.{le-ltb, lt-ltb, ltb-true}
 use lib.ListN.{length, drop, drop-of-length-le}
 use lib.Seq.{take-all}
-use Rattle.rules.specs.Lists.{member, any}
+use Rattle.rules.specs.Lists.{any}
 use Rattle.rules.specs.Bytes.{block, multiple}
 use Rattle.rules.specs.Answers.{Answer, refused, given, numbered, unless, _>>=_}
 use Rattle.rules.specs.declared.Setting.{Setting}
 use Rattle.rules.specs.declared.Refusal.{Refusal}
 use Rattle.rules.specs.Table.{entry-count, entries, rows, has-name, starts}
 use Rattle.rules.specs.Pointers.{places}
-use Rattle.rules.specs.Copies.{view, order-by, boot-order}
+use Rattle.rules.specs.Copies.{view}
 use Rattle.rules.specs.Readers.{slot-row}
 use Rattle.rules.specs.Commands.{create, delete, giving, name-allowed, name-free, size-right, has-start, lowest-start, created-start, create-steps, delete-steps, with-new-row, without-row, job}
 use Rattle.rules.specs.declared.View.{View}
@@ -25,7 +25,6 @@ use Rattle.rules.proofs.Table.StartRule.{found-below}
 use Rattle.rules.proofs.Claim.Viewing.{viewed, table-stands-there}
 use Rattle.jobs.specs.declared.Plan.{Plan}
 use Rattle.blocks.specs.Made.{rewrites-plan}
-use Rattle.blocks.proofs.Walking.{in-order}
 use Rattle.rooms.specs.Inner.Candidates.{Placed}
 use Rattle.drafts.specs.JobFor.{create-job, delete-job, job-for, job-by}
 use Rattle.drafts.specs.Inner.Drafted.{Drafts, Means}
@@ -34,7 +33,7 @@ use Rattle.drafts.specs.declared.Draft.the-variants.{Rewritten}
 use Rattle.drafts.specs.declared.Outcome.{Outcome}
 use Rattle.drafts.specs.declared.Outcome.the-variants.{Started, Refused}
 use Rattle.drafts.proofs.EqualCopies.{pairs-agree-if-equal}
-use Rattle.drafts.proofs.Asking.{refused-by, passed-by}
+use Rattle.drafts.proofs.Asking.{in-order-by, refused-by, passed-by}
 use Rattle.drafts.proofs.Drafting.{pair-means, drafts-job}
 use Rattle.views.proofs.Opening.{located}
 
@@ -181,14 +180,10 @@ module _ (s : Setting) (img : List ℕ) (v : View) (h : view s img ≡ given v) 
 
   module _ (q : o ≡ Started) (t p ks : List ℕ) (et : t ≡ block img (v .table)) (ep : p ≡ block img (v .pointers))
       (ek : ks ≡ giving (starts t) k 0 (places p)) where
-    ordered : member k (boot-order img v) ≡ ltb 0 (length ks)
-    unfolding boot-order order-by
-    ordered = rw (ek, ← et, ← ep) (in-order (starts t) k 0 (places p))
-
     pub delete-refused-43 : 0 < length ks → job s img v (delete k) ≡ refused (numbered 43)
     unfolding job unless
     delete-refused-43 some =
-        passed-by s img v h k o asked q _ ∙ rw (ordered, lt-ltb 0 (length ks) some)
+        passed-by s img v h k o asked q _ ∙ rw (in-order-by img v k t p ks et ep ek, lt-ltb 0 (length ks) some)
 
     pub delete-started : length ks ≡ 0
         → (n row : ℕ) (plan : Plan) (b : List ℕ)
@@ -201,5 +196,5 @@ module _ (s : Setting) (img : List ℕ) (v : View) (h : view s img ≡ given v) 
     delete-started none n row plan b en er ep′ eb =
         drafts-job s img v (delete k) b (Rewritten plan)
         (delete-steps (v .spt0) (v .spt1) (block img (v .table)) k)
-        (passed-by s img v h k o asked q _ ∙ rw (ordered, none))
+        (passed-by s img v h k o asked q _ ∙ rw (in-order-by img v k t p ks et ep ek, none))
         (pair-means (length img) (s .granule) plan _ (v .spt0) (v .spt1) b ep′ (rw (eb, er, en, et)) img)

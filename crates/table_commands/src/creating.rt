@@ -16,8 +16,6 @@ use rules::refusals::NAME_TAKEN;
 use rules::refusals::NO_ROW_LEFT;
 use rules::refusals::NO_START;
 ghost use mathlib.Core.Path.{_≡_};
-ghost use mathlib.Core.Bool.{_&&_, not};
-ghost use lib.Dec.{eqb};
 ghost use lib.ListN.{length};
 ghost use Rattle.rules.specs.Bytes.{block-size};
 ghost use Rattle.rules.specs.Answers.{given};
@@ -79,7 +77,7 @@ pub fn create_by(
             let t = fields::block_at(image, table_at);
             let p = fields::block_at(image, pointers_at);
             let n = entries::entry_count(t);
-            let places = places::places_of(p);
+            let places = place_walks::places_of(p);
             let len = image.len() as u64;
             let start = starts::lowest_start(t, n, p, places, len, long);
             if len <= start {

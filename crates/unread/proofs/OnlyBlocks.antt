@@ -190,7 +190,7 @@ module _ (s : Setting) (img img′ : List ℕ) (same : SameBlocks s img img′) 
         unless-same 7 14 (slot-there (entries t) k) (not (slot-empty img a)) (not (slot-empty img′ a))
             (unless 15 (enough-places (starts t) (block img (v .pointers)) k)
             (given (enable-steps (v .cpb0) (v .cpb1) (starts t) (block img (v .pointers)) k)))
-            (λ there. rw (slot (v .table) (b .reads) there)),
+            (λ there. rw (slot k (v .table) refl (b .reads) there)),
         b .table,
         b .pointers,
       )

@@ -11,7 +11,7 @@ use Rattle.rules.specs.declared.Setting.{Setting}
 use Rattle.rules.specs.Table.{entries, starts, cpb0-of, cpb1-of}
 use Rattle.rules.specs.Copies.{table-read}
 use Rattle.rules.specs.Readers.{slot-there}
-use Rattle.rules.specs.Commands.{Command, enable, disable, rename, create, delete, repair}
+use Rattle.rules.specs.Commands.{Command, enable}
 
 -- as long as each other, and the same 4,096 bytes at the start of both tables and, by the table read, of both pointer
 -- blocks
@@ -29,12 +29,8 @@ pub record SameBlocks (s : Setting) (img img′ : List ℕ) : Type 0 where
 -- the same first 4,096 bytes of the slot that enable is told, where the table read has that slot; the other commands read
 -- nothing of a slot
 unfoldable pub SameSlot : Setting → List ℕ → List ℕ → Command → Type 0
-SameSlot s img img′ (enable k) = (at : ℕ)
+SameSlot s img img′ c = (k at : ℕ)
+    → c ≡ enable k
     → table-read s img ≡ given at
     → slot-there (entries (block img at)) k ≡ true
     → block img (getD (starts (block img at)) k 0) ≡ block img′ (getD (starts (block img at)) k 0)
-SameSlot s img img′ (disable k) = Unit {0}
-SameSlot s img img′ (rename k n) = Unit {0}
-SameSlot s img img′ (create n size) = Unit {0}
-SameSlot s img img′ (delete k) = Unit {0}
-SameSlot s img img′ repair = Unit {0}

@@ -1,11 +1,13 @@
 -- Tests joined as code joins them, by `&` and `|` from left to right. Assumes nothing.
 use mathlib.Core.Path.{_≡_, refl, sym, _∙_}
 use mathlib.Core.Bool.{Bool, true, false, not, _&&_, _||_}
-use mathlib.Core.List.{[], _∷_}
-use Prim.Native.Nat.{ℕ, _≤_, _<_}
+use mathlib.Core.List.{List, [], _∷_}
+use Prim.Native.Nat.{ℕ, zero, suc, _≤_, _<_}
+use native.Mathlib.Omega.{arith}
 use lib.Dec.{leb}
+use lib.ListN.{length, take, drop}
 use borrow.Author.Tests.{le-leb, lt-leb, leb-true, leb-false, not-true, not-false}
-use Rattle.rules.specs.Lists.{all, any}
+use Rattle.rules.specs.Lists.{same, all, any}
 use Rattle.rules.proofs.Lists.Tests.{by-cases}
 
 pub and-assoc : (a b c : Bool) → a && b && c ≡ a && (b && c)
@@ -55,3 +57,13 @@ module _ {A : Type 0} (f : A → Bool) (x y z w : A) where
   pub any-six : (u v : A) → any f (x ∷ y ∷ z ∷ w ∷ u ∷ v ∷ []) ≡ f x || f y || f z || f w || f u || f v
   unfolding any
   any-six u v = simp (or-assoc, or-with-false)
+
+-- two lists compared are their fronts compared and the rests
+pub same-parts : (n : ℕ) (a b : List ℕ) → length a ≡ length b
+    → same a b ≡ same (take n a) (take n b) && same (drop n a) (drop n b)
+unfolding same
+same-parts zero a b h = refl
+same-parts (suc n) [] [] h = refl
+same-parts (suc n) [] (y ∷ b) h = absurd (omega arith)
+same-parts (suc n) (x ∷ a) [] h = absurd (omega arith)
+same-parts (suc n) (x ∷ a) (y ∷ b) h = rw (same-parts n a b (omega arith), and-assoc)

@@ -5,13 +5,10 @@ use mathlib.Core.Bool.{true}
 use mathlib.Core.List.{List, [], _∷_}
 use Prim.Native.Nat.{ℕ, zero, suc, _+_}
 use native.Mathlib.Nat.{zero-add, suc-add}
-use native.Mathlib.Omega.{arith}
 use lib.Dec.{ltb}
-use borrow.Author.Tests.{ltb-true}
 use lib.ListN.{take, drop}
 use lib.Seq.{drop-drop, take-nil}
 use Rattle.rules.specs.Lists.{all}
-use Rattle.rules.specs.Bytes.{Bytes}
 use Rattle.rules.specs.Answers.{Answer, refused, given}
 use Rattle.rules.specs.declared.Setting.{Setting}
 use Rattle.rules.specs.Copies.{pairs-agree}
@@ -21,7 +18,7 @@ use Rattle.rules.specs.Cuts.{run, runs, half-done, dropped}
 use Rattle.rules.specs.Book.{the-commands, Item, Outcome, was-refused, finished, cut, how-ended, progress, left-by, flash-after, ended-by, outcome, all-proper, name-bytes, Demand3}
 use Rattle.quarry.specs.Quarry.{quarry-setting, quarry-p3}
 use Rattle.rules.specs.declared.Step.{Step}
-use Rattle.rules.proofs.Lists.Tests.{and-true}
+use Rattle.rules.proofs.Lists.ByteLists.{bytes-by-test}
 use Rattle.quarry.proofs.Opened.{rules}
 use Rattle.rules.proofs.Steps.Programming.{fast-steps, fast-is-steps}
 use Rattle.rules.proofs.Steps.Cutting.{under-way}
@@ -48,12 +45,6 @@ abbrev pub a-flash : List ℕ
 a-flash = quarry-p3 (0 ∷ [])
 
 -- ---- the claim for it
-
-bytes-by-test : (bs : List ℕ) → all (λ b. ltb b 256) bs ≡ true → Bytes bs
-unfolding all
-bytes-by-test [] h i = omega arith
-bytes-by-test (b ∷ bs) h zero = ltb-true b 256 (and-true (ltb b 256) (all (λ c. ltb c 256) bs) h .0)
-bytes-by-test (b ∷ bs) h (suc i) = bytes-by-test bs (and-true (ltb b 256) (all (λ c. ltb c 256) bs) h .1) i
 
 quarry-bytes : all (λ b. ltb b 256) a-flash ≡ true
 unfolding rules

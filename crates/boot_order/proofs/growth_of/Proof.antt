@@ -1,7 +1,7 @@
 -- `boot_order::growth_of` is by how much the order grows. Assumes nothing.
 use native.Mathlib.Omega.{arith}
 use borrow.Author.Needs.{needs}
-use Rattle.places.specs.Inner.Added.{growth}
+use Rattle.place_walks.specs.Inner.Added.{growth}
 use Rattle.boot_order.proofs.growth_of.Statement.{statement}
 use Rattle.boot_order.proofs.growth_of.Tie as tie
 

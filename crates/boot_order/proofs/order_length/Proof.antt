@@ -8,7 +8,8 @@ use borrow.Author.Needs.{needs}
 use Rattle.rules.specs.Table.{starts, entries}
 use Rattle.rules.specs.Copies.{order-by}
 use Rattle.rules.proofs.Pointers.PointerHeader.{places-fit}
-use Rattle.places.proofs.Free.{count-is, free-places}
+use Rattle.places.proofs.PlacesOf.{count-is}
+use Rattle.place_walks.proofs.Free.{free-places}
 use Rattle.boot_order.proofs.BootOrder.{MetFrom, none-met, met-down, places-left, all-met}
 use Rattle.boot_order.proofs.order_length.Statement.{statement}
 use Rattle.boot_order.proofs.order_length.Tie as tie

@@ -2,7 +2,7 @@
 use mathlib.Core.Path.{ap}
 use native.Mathlib.Omega.{arith}
 use borrow.Author.Needs.{needs}
-use Rattle.places.specs.Inner.Added.{growth, stored}
+use Rattle.place_walks.specs.Inner.Added.{growth, stored}
 use Rattle.boot_order.proofs.store.Statement.{statement}
 use Rattle.boot_order.proofs.store.Tie as tie
 

@@ -9,7 +9,8 @@ use Rattle.rules.specs.Table.{starts, entries}
 use Rattle.rules.specs.Pointers.{places, order}
 use Rattle.rules.specs.Copies.{order-by}
 use Rattle.rules.proofs.Pointers.PointerHeader.{places-fit}
-use Rattle.places.proofs.Free.{none-above, count-is, free-places}
+use Rattle.places.proofs.PlacesOf.{count-is}
+use Rattle.place_walks.proofs.Free.{none-above, free-places}
 use Rattle.boot_order.proofs.BootOrder.{in-front, order-grows, MetFrom, none-met, met-down, row-down, places-left, all-met}
 use Rattle.boot_order.proofs.write_order.Statement.{statement}
 use Rattle.boot_order.proofs.write_order.Tie as tie

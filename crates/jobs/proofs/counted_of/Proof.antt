@@ -3,7 +3,6 @@ use mathlib.Core.Path.{_≡_}
 use native.Mathlib.Omega.{arith}
 use borrow.Author.Needs.{needs}
 use Rattle.rules.specs.Answers.{numbered}
-use Rattle.jobs.specs.Jobs.{counted}
 use Rattle.jobs.specs.Inner.Parts.{countable}
 use Rattle.jobs.proofs.ListedSteps.{listed-bound}
 use Rattle.jobs.proofs.Running.{refused-steps}

@@ -1,6 +1,6 @@
 -- `places::place_value` is the value by where the places begin. Assumes nothing.
 use native.Mathlib.Omega.{arith}
-use Rattle.places.proofs.Free.{offset-is, count-is}
+use Rattle.places.proofs.PlacesOf.{offset-is, count-is}
 use Rattle.places.proofs.place_value.Statement.{statement}
 use Rattle.places.proofs.place_value.Tie as tie
 

@@ -1,6 +1,6 @@
 -- `places::value_at` reads the field of a place, which lies inside the block. Assumes nothing.
 use native.Mathlib.Omega.{arith}
-use Rattle.places.specs.Inner.Added.{place-value}
+use Rattle.places.specs.Inner.Values.{place-value}
 use Rattle.places.proofs.Values.{place-inside}
 use Rattle.places.proofs.value_at.Statement.{statement}
 use Rattle.places.proofs.value_at.Tie as tie

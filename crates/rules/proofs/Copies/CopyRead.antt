@@ -9,7 +9,7 @@ use Prim.Native.Nat.{ℕ}
 use native.Mathlib.Omega.{arith}
 use Rattle.rules.specs.Lists.{same}
 use Rattle.rules.specs.Bytes.{block}
-use Rattle.rules.specs.Answers.{refused, given}
+use Rattle.rules.specs.Answers.{given}
 use Rattle.rules.specs.Copies.{copy-read, pair-agrees}
 use Rattle.rules.specs.declared.Refusal.{Refusal}
 use Rattle.rules.proofs.Lists.Tests.{by-cases, clash, and-true, same-true, same-of, given-inj, refused-given}

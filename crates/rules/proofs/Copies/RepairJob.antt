@@ -6,7 +6,7 @@ use mathlib.Core.Option.{some}
 use Prim.Native.Nat.{ℕ, _+_, _≤_}
 use lib.ListN.{length}
 use Rattle.rules.specs.Bytes.{Bytes, block}
-use Rattle.rules.specs.Answers.{given, numbered}
+use Rattle.rules.specs.Answers.{numbered}
 use Rattle.rules.specs.Table.{table-stands}
 use Rattle.rules.specs.Pointers.{pointers-stand}
 use Rattle.rules.specs.Steps.{steps}

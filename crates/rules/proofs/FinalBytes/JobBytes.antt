@@ -8,6 +8,7 @@ use Rattle.rules.specs.Bytes.{Bytes}
 use Rattle.rules.specs.Answers.{given}
 use Rattle.rules.specs.Table.{entries, slots, table-stands}
 use Rattle.rules.specs.Pointers.{pointers-stand}
+use Rattle.rules.specs.Copies.{agree-by}
 use Rattle.rules.specs.Readers.{slot-row}
 use Rattle.rules.specs.Steps.{steps, rewrite-pair}
 use Rattle.rules.specs.Commands.{Command, enable, disable, rename, create, delete, repair, put-name, name-free, has-already, rename-steps, create-steps, delete-steps, repair-pair, repair-steps, job}
@@ -19,13 +20,14 @@ use Rattle.rules.proofs.Lists.Tests.{by-cases}
 use Rattle.rules.proofs.Steps.Programming.{steps-append}
 use Rattle.rules.proofs.Copies.PairCuts.{repair-pair-same}
 use Rattle.rules.proofs.Table.Renaming.{Allowed}
-use Rattle.rules.proofs.Claim.Invariant.{Beginning, granule-holds-block, Invariant, BothEqual, table-pair, pointer-pair, pointers-kept, table-address, pointers-address, which-table, which-pointers, the-view, blocks-inside}
+use Rattle.rules.proofs.Claim.Invariant.{Beginning, granule-holds-block, Invariant, BothEqual, table-pair, pointer-pair, pointers-kept, table-address, pointers-address, which-table, which-pointers, the-view, blocks-inside, agree-both-equal}
 use Rattle.rules.proofs.Pointers.PointerJobs.{agreed}
 use Rattle.rules.proofs.Table.Replacing.{Replaces}
 use Rattle.rules.proofs.Table.RenameJob.{put-name-replaces}
 use Rattle.rules.proofs.Table.SlotJobs.{created-start-here, new-row-replaces, without-row-replaces}
 use Rattle.rules.proofs.Copies.RepairJob.{tables-mended, tables-mended-changes, tables-mended-holds}
-use Rattle.rules.proofs.Claim.StartedJob.{slots-by-starts, Started, started-by, table-there, pointers-there}
+use Rattle.rules.proofs.Claim.StartedJob.{Started, started-by, table-there, pointers-there}
+use Rattle.rules.proofs.Table.SlotStarts.{slots-by-starts}
 use Rattle.rules.proofs.FinalBytes.PutBytes.{rewrite-pair-puts, repair-pair-puts}
 use Rattle.rules.proofs.FinalBytes.PointersPut.{enable-puts, disable-puts}
 
@@ -99,23 +101,29 @@ module _ (b : Beginning) (img : List ℕ) (r : Reading) (h : Invariant b img r) 
       all-done : List Step → List ℕ
       all-done ts = steps (s .granule) ts img
 
+      equal : agree-by s img v ≡ true → BothEqual b img
+      equal = agree-both-equal b img r h
+
       by-command : (c : Command) → name-bytes c → Started b img r h c ss → all-done ss ≡ final s img v c
-      by-command (enable k) _ (equal, there, _, fits, listed) =
+      by-command (enable k) _ q =
           rw (table-there b img r h, pointers-there b img r h)
-          (sym (ap all-done listed) ∙ enable-puts (agreed b img r h equal) k there fits)
-      by-command (disable k) _ (equal, there, listed) =
+          (sym (ap all-done (q .listed))
+          ∙ enable-puts (agreed b img r h (equal (q .agree))) k (slots-by-starts (r .table) k (q .there)) (q .fits))
+      by-command (disable k) _ q =
           rw (table-there b img r h, pointers-there b img r h)
-          (sym (ap all-done listed) ∙ disable-puts (agreed b img r h equal) k)
-      by-command (rename k n) bytes (equal, there, may, free, listed) =
-          rw (table-there b img r h) (sym (ap all-done listed) ∙ rename-bytes equal k n there may free bytes)
-      by-command (create n size) bytes (equal, ok, free, right, few, found, listed) =
-          rw (table-there b img r h, created-start-here b img r h size)
-          (sym (ap all-done listed)
-          ∙ unfold create-steps in
-          tables-put _ (new-row-replaces b img r h equal n size ok free right few found bytes))
-      by-command (delete k) _ (equal, there, idle, listed) =
+          (sym (ap all-done (q .listed)) ∙ disable-puts (agreed b img r h (equal (q .agree))) k)
+      by-command (rename k n) bytes q =
           rw (table-there b img r h)
-          (sym (ap all-done listed)
-          ∙ unfold delete-steps in
-          tables-put _ (without-row-replaces b img r h equal k there (slots-by-starts (r .table) k there) idle))
+          (sym (ap all-done (q .listed))
+          ∙ rename-bytes (equal (q .agree)) k n (q .there) (q .name) (q .free) bytes)
+      by-command (create n size) bytes q =
+          rw (table-there b img r h, created-start-here b img r h size)
+          (sym (ap all-done (q .listed))
+          ∙ unfold create-steps in
+          tables-put _
+          (new-row-replaces b img r h (equal (q .agree)) n size (q .name) (q .free) (q .right) (q .few) (q .found) bytes))
+      by-command (delete k) _ q =
+          rw (table-there b img r h)
+          (sym (ap all-done (q .listed))
+          ∙ unfold delete-steps in tables-put _ (without-row-replaces b img r h (equal (q .agree)) k (q .there)))
       by-command repair _ listed = sym (ap all-done listed) ∙ repair-bytes

@@ -11,7 +11,6 @@ use lib.Dec.{eqb}
 use lib.Bits.{bitAnd, and-zero-r}
 use lib.ListN.{length, getD, drop, replicate, length-append, length-replicate}
 use Rattle.rules.specs.Bytes.{Bytes, block, block-size, bytes-of, erased-byte}
-use Rattle.rules.specs.Answers.{given}
 use Rattle.rules.specs.Steps.{steps, programs, rewrite, rewrite-pair}
 use Rattle.rules.specs.Copies.{pair-agrees}
 use Rattle.rules.specs.Commands.{into-place, into-places, repair-pair}

@@ -1,11 +1,16 @@
 -- Lists of bytes put together from others, and fields that lie in the front of a block. Assumes nothing.
 use mathlib.Core.Path.{_≡_, sym, ap, _∙_}
+use mathlib.Core.Bool.{true}
 use mathlib.Core.List.{List, [], _∷_, _++_}
 use Prim.Native.Nat.{ℕ, zero, suc, _+_, _≤_, _<_}
 use native.Mathlib.Omega.{arith}
+use lib.Dec.{ltb}
+use borrow.Author.Tests.{ltb-true}
 use lib.ListN.{take, drop, replicate, length-take, length-drop}
 use lib.Seq.{getD-take, getD-drop, ext-getD}
+use Rattle.rules.specs.Lists.{all}
 use Rattle.rules.specs.Bytes.{Bytes, little-endian, field}
+use Rattle.rules.proofs.Lists.Tests.{and-true}
 
 pub bytes-append : (x y : List ℕ) → Bytes x → Bytes y → Bytes (x ++ y)
 bytes-append [] y hx hy i = hy i
@@ -25,6 +30,13 @@ pub bytes-replicate : (n b : ℕ) → b < 256 → Bytes (replicate n b)
 bytes-replicate zero b h i = omega arith
 bytes-replicate (suc n) b h zero = h
 bytes-replicate (suc n) b h (suc i) = bytes-replicate n b h i
+
+-- by a test that is computed
+pub bytes-by-test : (bs : List ℕ) → all (λ b. ltb b 256) bs ≡ true → Bytes bs
+unfolding all
+bytes-by-test [] h i = omega arith
+bytes-by-test (b ∷ bs) h zero = ltb-true b 256 (and-true (ltb b 256) (all (λ c. ltb c 256) bs) h .0)
+bytes-by-test (b ∷ bs) h (suc i) = bytes-by-test bs (and-true (ltb b 256) (all (λ c. ltb c 256) bs) h .1) i
 
 -- a field inside the first m bytes goes by them alone
 pub field-by-front : (m offset n : ℕ) (x y : List ℕ)

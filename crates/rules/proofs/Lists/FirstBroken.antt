@@ -1,9 +1,9 @@
 -- The first element that fails a test by itself, or with an earlier one: its number is that of all elements exactly if
 -- none fails, and else below it. Assumes nothing.
-use mathlib.Core.Path.{_≡_, refl, sym, ap, _∙_}
+use mathlib.Core.Path.{_≡_, refl, ap, _∙_}
 use mathlib.Core.Bool.{Bool, true, false, _&&_}
 use mathlib.Core.List.{List, [], _∷_}
-use Prim.Native.Nat.{ℕ, suc, _≤_, _<_, compare·suc-suc, compare·zero-suc}
+use Prim.Native.Nat.{ℕ, _≤_, _<_, compare·suc-suc, compare·zero-suc}
 use native.Mathlib.Omega.{arith}
 use lib.Dec.{eqb}
 use lib.ListN.{length}

@@ -24,6 +24,10 @@ use Rattle.rules.proofs.Order.OnceEach.{Once, absent-of-appended}
 
 -- ---- the order of the pointers made up for an order
 
+pub length-pointers-of : (starts o : List ℕ) → length (pointers-of starts o) ≡ length o
+unfolding pointers-of
+length-pointers-of starts o = length-map (reverse o) (λ k. getD starts k 0) ∙ length-reverse o
+
 module _ (starts : List ℕ) (right : SlotStarts starts) where
   abbrev start-of : ℕ → ℕ
   start-of k = getD starts k 0
@@ -186,16 +190,12 @@ module _ (p : List ℕ) (lp : length p ≡ block-size) (fit : PlacesFit p)
 
 module _ (starts : List ℕ) (right : SlotStarts starts) (p : List ℕ) (lp : length p ≡ block-size) (fit : PlacesFit p)
     (o : List ℕ) where
-  pub length-pointers-of : length (pointers-of starts o) ≡ length o
-  unfolding pointers-of
-  length-pointers-of = length-map (reverse o) (λ k. getD starts k 0) ∙ length-reverse o
-
   -- the block reads as the order
   pub filled-order : (few : length o ≤ place-count p)
       → Once (length starts) o
       → order starts (places (filled p (pointers-of starts o))) ≡ o
   filled-order few once =
       ap (order starts)
-      (filled-places p lp fit (pointers-of starts o) (rw length-pointers-of few)
+      (filled-places p lp fit (pointers-of starts o) (rw (length-pointers-of starts o) few)
       (λ k. unfold pointers-of in pointers-small starts right (reverse o) k))
       ∙ order-of-pointers starts right (place-count p - length (pointers-of starts o)) o once

@@ -1,8 +1,8 @@
 -- A value at which a slot of a standing table starts is not erased, not 0 and has no top byte 0xFF, and 0 is not erased:
 -- of the five kinds of a place only one fits a value, so that it does not matter in which order they are asked.
 -- Assumes nothing.
-use mathlib.Core.Path.{_≡_, refl, sym, _∙_}
-use mathlib.Core.Bool.{true, false}
+use mathlib.Core.Path.{_≡_, refl}
+use mathlib.Core.Bool.{false}
 use mathlib.Core.List.{List}
 use mathlib.Core.Option.{some}
 use Prim.Native.Nat.{ℕ, _/_, _<_}

@@ -128,7 +128,7 @@ module _ (agreed : AgreedPointers) where
     made-up = filled p (pointers-of starts o)
 
     few : length (pointers-of starts o) ≤ place-count p
-    few = rw (length-pointers-of starts right p length-p fit o) (new .short)
+    few = rw (length-pointers-of starts o) (new .short)
 
     made-up-stands : pointers-stand made-up ≡ true
     made-up-stands = filled-stands p length-p fit (pointers-of starts o) few ∙ stands

@@ -4,7 +4,6 @@ use mathlib.Core.Path.{_≡_, refl, sym, ap, _∙_}
 use mathlib.Core.Bool.{true, false}
 use mathlib.Core.Logic.{_⊎_, inl, inr}
 use mathlib.Core.List.{List, [], _∷_, _++_, map}
-use mathlib.Core.Option.{Option, none, some}
 use Prim.Native.Nat.{ℕ, zero, suc, _+_, _*_, _≤_, _<_}
 use native.Mathlib.Nat.{le-of-suc-le-suc, not-suc-le-zero, zero-add}
 use native.Mathlib.Omega.{arith}
@@ -17,7 +16,6 @@ use Rattle.rules.specs.declared.Step.{Step}
 use Rattle.rules.specs.Pointers.{place-offset, place-count, values, places, erased-value, all-ones, judged, is-erased, order, pointers-stand}
 use Rattle.rules.specs.Steps.{steps}
 use Rattle.rules.specs.Commands.{free-place, into-place, append-steps, giving, into-places, clear-steps, half-cleared-names}
-use Rattle.rules.proofs.Lists.Tests.{by-cases, clash}
 use Rattle.rules.proofs.Steps.Cutting.{Cut, cut-all}
 use Rattle.rules.proofs.Steps.Frame.{Only, Range, StepsWithin, within-append, within-programs, within-wider}
 use Rattle.rules.proofs.Copies.CopyRead.{first-read}

@@ -7,14 +7,15 @@ use Prim.Native.Nat.{ℕ}
 use lib.Dec.{eqb}
 use Rattle.rules.specs.Lists.{same}
 use Rattle.rules.specs.Bytes.{block}
-use Rattle.rules.specs.Answers.{unless, refused, numbered}
+use Rattle.rules.specs.Answers.{refused, numbered}
 use Rattle.rules.specs.Pointers.{place-offset, place-count, pointers-stand}
 use Rattle.rules.specs.Copies.{pair-agrees, tables-agree, pointers-agree, agree-by}
 use Rattle.rules.specs.Steps.{rewrite}
-use Rattle.rules.specs.Commands.{Command, enable, disable, rename, create, delete, repair, repair-pair, job}
+use Rattle.rules.specs.Commands.{Command, repair, repair-pair, job}
 use Rattle.rules.specs.declared.Setting.{Setting}
 use Rattle.rules.specs.declared.View.{View}
 use Rattle.rules.proofs.Lists.Tests.{by-cases, same-true}
+use Rattle.rules.proofs.Claim.RefusalNumbers.{refused-6}
 
 module _ (s : Setting) (img : List ℕ) (v : View) where
   abbrev p0 : List ℕ
@@ -44,14 +45,8 @@ module _ (s : Setting) (img : List ℕ) (v : View) where
     not-agreed = rw shapes-disagree (by-cases (tables-agree s img) (λ t. rw t) (λ t. rw t))
 
     -- every command but repair
-    pub refused-6 : (c : Command) → (c ≡ repair → ⊥) → job s img v c ≡ refused (numbered 6)
-    unfolding job unless
-    refused-6 (enable k) h = rw not-agreed
-    refused-6 (disable k) h = rw not-agreed
-    refused-6 (rename k n) h = rw not-agreed
-    refused-6 (create n size) h = rw not-agreed
-    refused-6 (delete k) h = rw not-agreed
-    refused-6 repair h = absurd (h refl)
+    pub shapes-refused : (c : Command) → (c ≡ repair → ⊥) → job s img v c ≡ refused (numbered 6)
+    shapes-refused = refused-6 s img v not-agreed
 
     pub rewritten-from-copy-read :
         repair-pair pointers-stand img (v .cpb0) (v .cpb1) (v .pointers)

@@ -8,24 +8,25 @@ use Prim.Native.Nat.{ℕ, suc, _+_, _*_, _≤_, _<_}
 use native.Mathlib.Omega.{arith}
 use lib.Dec.{eqb, leb}
 use borrow.Author.Tests.{le-leb, not-true}
-use lib.ListN.{length, getD, drop, length-append, length-drop}
-use lib.Seq.{drop-at, length-take-le}
+use lib.ListN.{length, getD, drop, length-drop}
+use lib.Seq.{drop-at}
 use Rattle.rules.specs.Lists.{member, all, any, keep}
 use Rattle.rules.specs.Bytes.{Bytes, bytes-of, block-size, multiple}
 use Rattle.rules.specs.Numbers.{longest}
 use Rattle.rules.specs.declared.Setting.{Setting}
-use Rattle.rules.specs.Table.{Entry, entry-count, entries-from, entries, name, six-names, has-name, no-entry, named, count-right, name-right, names-differ, range-aligned, range-inside, ranges-apart, six-named, is-slot, slots, slot-starts, starts}
+use Rattle.rules.specs.Table.{Entry, entry-count, entries-from, entries, six-names, has-name, no-entry, named, count-right, name-right, names-differ, range-aligned, range-inside, ranges-apart, six-named, is-slot, slots, slot-starts, starts}
 use Rattle.rules.specs.Commands.{row-bytes, new-range, may-start, padded-name, new-row, with-new-row, size-right}
 use Rattle.rules.proofs.Lists.Tests.{by-cases, and-true, or-true}
-use Rattle.rules.proofs.Lists.Combinators.{all-at, all-weaker, all-of-none}
+use Rattle.rules.proofs.Lists.Combinators.{all-weaker, all-of-none}
 use Rattle.rules.proofs.Lists.OneMore.{all-append, any-append, first-append, keep-append, pairwise-append-one}
 use Rattle.rules.proofs.Lists.ByteLists.{bytes-append, bytes-take, bytes-drop}
 use Rattle.rules.proofs.Lists.Words.{bytes-of-bytes}
-use Rattle.rules.proofs.Table.Standing.{Standing, ends-inside}
+use Rattle.rules.proofs.Table.Standing.{Standing, ends-inside, named-there}
 use Rattle.rules.proofs.Table.PutName.{with-name, padded-bytes}
 use Rattle.rules.proofs.Table.Replacing.{Replaces, Keeps, replaces}
 use Rattle.rules.proofs.Table.Renaming.{Allowed, new-name, new-name-right, differs-both-ways}
-use Rattle.rules.proofs.Table.RowBytes.{entries-split, entries-in-front, length-new-row, new-row-first, rows-length, rows-bytes, rows-header, rows-count, rows-entries}
+use Rattle.rules.proofs.Table.RowLengths.{length-rows, length-rows-with-new, length-with-new-row}
+use Rattle.rules.proofs.Table.RowBytes.{entries-split, entries-in-front, new-row-first, rows-bytes, rows-header, rows-count, rows-entries}
 
 -- ---- the entries with the new one
 
@@ -89,11 +90,6 @@ module _ (len : ℕ) (es : List Entry) (ps n : List ℕ) (start size : ℕ) (new
       (all-of-none (has-name n) es (new .free))
 
   module _ (s : Setting) (t : List ℕ) (st : Standing s len t) (is-table : entries t ≡ es) where
-    named-there : (i : ℕ) → i < 6 → any (has-name (getD six-names i [])) es ≡ true
-    unfolding six-named six-names
-    named-there i l =
-        all-at (λ m. any (has-name m) es) six-names [] i (rw (← is-table) (st .rule8)) l
-
     pub entries-keep : Keeps len (entries t) (es ++ (new-entry ∷ []))
     unfolding all named six-named
     entries-keep = rw is-table record {
@@ -106,7 +102,7 @@ module _ (len : ℕ) (es : List Entry) (ps n : List ℕ) (start size : ℕ) (new
       rule8 = all-weaker (λ m. any (has-name m) es) (λ m. any (has-name m) (es ++ (new-entry ∷ [])))
           (λ m h. any-append (has-name m) es (new-entry ∷ []) h) six-names (rw (← is-table) (st .rule8));
       named-kept = λ i l.
-          first-append (has-name (getD six-names i [])) no-entry es (new-entry ∷ []) (named-there i l);
+          first-append (has-name (getD six-names i [])) no-entry es (new-entry ∷ []) (named-there es (rw (← is-table) (st .rule8)) i l);
     }
 
   -- it is a slot
@@ -150,23 +146,11 @@ module _ (s : Setting) (len : ℕ) (t ps n : List ℕ) (start size : ℕ) (whole
   inside : start + size ≤ len
   inside = ends-in-image len (entries t) ps n start size new
 
-  new-row-length : length (new-row n start size) ≡ 32
-  new-row-length = length-new-row n start size (new .ok .short) (omega (arith, inside)) (omega (arith, inside))
-
   old-rows-length : length old-rows ≡ 32 * count
-  unfolding row-bytes
-  old-rows-length = length-take-le (32 * count) (drop 0x20 t) (rw (length-drop 0x20 t) (omega arith))
+  old-rows-length = length-rows 0 count t (omega arith)
 
   body-length : 0x20 + length body ≡ block-size
-  body-length =
-      rw (
-        length-append old-rows (new-row n start size ++ rest),
-        length-append (new-row n start size) rest,
-        old-rows-length,
-        new-row-length,
-        length-drop (0x20 + 32 * suc count) t,
-      )
-      (omega arith)
+  body-length = length-rows-with-new t whole n start size few (new .ok .short)
 
   abbrev b : List ℕ
   b = with-new-row t n start size
@@ -206,7 +190,7 @@ module _ (s : Setting) (len : ℕ) (t ps n : List ℕ) (start size : ℕ) (whole
       (unfold with-new-row in rows-header t body (suc count) whole small-count body-length)
       count-still-right
       (entries-keep len (entries t) ps n start size new s t st refl)
-      (unfold with-new-row in rows-length t body (suc count) whole small-count body-length)
+      (length-with-new-row t whole n start size few (new .ok .short))
       (unfold with-new-row in rows-bytes t body (suc count) whole small-count body-length ht body-bytes)
     where
       row-is-bytes : Bytes (new-row n start size)

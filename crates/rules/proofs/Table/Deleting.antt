@@ -7,8 +7,8 @@ use Prim.Native.Nat.{ℕ, zero, suc, _+_, _*_, _-_, _≤_, _<_}
 use native.Mathlib.Nat.{le-of-suc-le-suc, not-suc-le-zero}
 use native.Mathlib.Omega.{arith}
 use borrow.Author.Tests.{le-leb, not-true}
-use lib.ListN.{length, getD, take, drop, replicate, length-append, length-drop, length-replicate}
-use lib.Seq.{take-at, drop-at, drop-drop, length-take-le}
+use lib.ListN.{length, getD, take, drop, replicate, length-drop}
+use lib.Seq.{take-at, drop-at, drop-drop}
 use Rattle.rules.specs.Lists.{all, any, keep}
 use Rattle.rules.specs.Bytes.{Bytes, block-size}
 use Rattle.rules.specs.declared.Setting.{Setting}
@@ -22,7 +22,8 @@ use Rattle.rules.proofs.Lists.ByteLists.{bytes-append, bytes-take, byte
 use Rattle.rules.proofs.Table.Standing.{Standing, at-most-127, length-entries, length-entries-from}
 use Rattle.rules.proofs.Table.Replacing.{Replaces, Keeps, replaces}
 use Rattle.rules.proofs.Table.Renaming.{slot-row-found, no-fixed-name, slot-has-no-fixed-name}
-use Rattle.rules.proofs.Table.RowBytes.{entries-split, entries-in-front, rows-length, rows-bytes, rows-header, rows-count, rows-entries}
+use Rattle.rules.proofs.Table.RowLengths.{length-rows, length-rows-closed-up, length-without-row}
+use Rattle.rules.proofs.Table.RowBytes.{entries-split, entries-in-front, rows-bytes, rows-header, rows-count, rows-entries}
 
 -- ---- the slots without one
 
@@ -104,25 +105,10 @@ module _ (s : Setting) (len : ℕ) (t : List ℕ) (k : ℕ) (whole : length t �
   body = before ++ (after ++ zeros)
 
   before-length : length before ≡ 32 * row
-  unfolding row-bytes
-  before-length = length-take-le (32 * row) (drop 0x20 t) (rw (length-drop 0x20 t) (omega (arith, counted, few)))
-
-  after-length : length after ≡ 32 * later
-  unfolding row-bytes
-  after-length =
-      length-take-le (32 * later) (drop (0x20 + 32 * suc row) t)
-      (rw (length-drop (0x20 + 32 * suc row) t) (omega (arith, counted, few)))
+  before-length = length-rows 0 row t (omega (arith, counted, few))
 
   body-length : 0x20 + length body ≡ block-size
-  body-length =
-      rw (
-        length-append before (after ++ zeros),
-        length-append after zeros,
-        before-length,
-        after-length,
-        length-replicate {A = ℕ} (32 * (128 - count)) 0,
-      )
-      (omega (arith, counted, few))
+  body-length = length-rows-closed-up t whole row few counted
 
   small-count : count - 1 < 0x100000000
   small-count = omega (arith, few)
@@ -195,7 +181,7 @@ module _ (s : Setting) (len : ℕ) (t : List ℕ) (k : ℕ) (whole : length t �
       replaces s len t b (left-out row es) st deleted-entries
       (unfold without-row in rows-header t body (count - 1) whole small-count body-length)
       count-still-right entries-keep
-      (unfold without-row in rows-length t body (count - 1) whole small-count body-length)
+      (length-without-row t whole row few counted)
       (unfold without-row in rows-bytes t body (count - 1) whole small-count body-length ht body-bytes)
     where
       body-bytes : Bytes body

@@ -1,19 +1,18 @@
 -- What is told of a table copy: with a rule about the whole table entry 127, with any other rule the number of a counted
 -- entry. Where a flash is refused 50 or 51 a rule is told of both copies. Assumes nothing.
 use mathlib.Core.Path.{_≡_, refl, sym, ap, _∙_}
-use mathlib.Core.Bool.{Bool, true, false, not, _&&_, _||_}
+use mathlib.Core.Bool.{Bool, true, false}
 use mathlib.Core.Logic.{_⊎_, inl, inr}
 use mathlib.Core.List.{List, [], _∷_}
 use Prim.Native.Nat.{ℕ, _≤_, _<_}
 use native.Mathlib.Omega.{arith}
-use lib.Dec.{eqb}
 use lib.ListN.{length, getD}
-use Rattle.rules.specs.Lists.{member, all, any, pairwise}
+use Rattle.rules.specs.Lists.{member, all, any}
 use Rattle.rules.specs.Bytes.{block}
 use Rattle.rules.specs.Answers.{Answer, refused, given, numbered, unless, _>>=_, no-entry-number, broken}
 use Rattle.rules.specs.Copies.{copy-read, no-table, table-read, pointers-read, view-through, view}
-use Rattle.rules.specs.Table.{Entry, entry-count, entries, header-right, count-right, name-right, names-differ, range-aligned, range-inside, ranges-apart}
-use Rattle.rules.specs.Table.{boot-info, spt0-name, spt1-name, cpb0-name, cpb1-name, six-names, has-name, no-entry, named, block-names, on-granules}
+use Rattle.rules.specs.Table.{Entry, entry-count, entries, name-right, names-differ, range-aligned, range-inside, ranges-apart}
+use Rattle.rules.specs.Table.{boot-info, spt0-name, spt1-name, six-names, has-name, no-entry, named, block-names, on-granules}
 use Rattle.rules.specs.Table.{six-named, boot-info-at-0, tables-as-told, blocks-on-granules, if-named, starts-at, boot-info-right, table-as-told, block-on-granules}
 use Rattle.rules.specs.Table.{table-stands, broken-unless, entries-fault, fault}
 use Rattle.rules.specs.Table.{cpb0-of, cpb1-of}
@@ -24,7 +23,7 @@ use Rattle.rules.specs.declared.Refusal.{Refusal}
 use Rattle.rules.proofs.Lists.Tests.{by-cases, clash, and-true, both-true, refused-given}
 use Rattle.rules.proofs.Lists.Combinators.{all-at, all-weaker, first-passes, first-of-all}
 use Rattle.rules.proofs.Lists.FirstBroken.{failing-below, clash-below}
-use Rattle.rules.proofs.Table.Standing.{length-entries}
+use Rattle.rules.proofs.Table.Standing.{length-entries, named-there}
 use Rattle.rules.proofs.Table.Faults.{no-fault-stands}
 
 -- ---- the entry told
@@ -62,22 +61,17 @@ named-passes es n right some h =
 
 -- rules 9, 10 and 11 hold if every entry passes what they ask of one
 module _ (s : Setting) (es : List Entry) (rule8 : six-named es ≡ true) where
-  -- the i-th of the six names is there
-  name-there : (i : ℕ) → i < 6 → any (has-name (getD six-names i [])) es ≡ true
-  unfolding six-named six-names
-  name-there i l = all-at (λ n. any (has-name n) es) six-names [] i rule8 l
-
   rule-9 : all boot-info-right es ≡ true → boot-info-at-0 es ≡ true
   unfolding boot-info-at-0 boot-info-right starts-at six-names
-  rule-9 h = named-passes es boot-info (starts-at 0) (name-there 0 (omega arith)) h
+  rule-9 h = named-passes es boot-info (starts-at 0) (named-there es rule8 0 (omega arith)) h
 
   rule-10 : all (table-as-told s) es ≡ true → tables-as-told s es ≡ true
   unfolding tables-as-told table-as-told starts-at six-names
   rule-10 h =
       both-true _ _
-      (named-passes es spt0-name (starts-at (s .spt0)) (name-there 2 (omega arith))
+      (named-passes es spt0-name (starts-at (s .spt0)) (named-there es rule8 2 (omega arith))
       (all-weaker (table-as-told s) _ (λ e p. and-true (of0 e) (of1 e) p .0) es h))
-      (named-passes es spt1-name (starts-at (s .spt1)) (name-there 3 (omega arith))
+      (named-passes es spt1-name (starts-at (s .spt1)) (named-there es rule8 3 (omega arith))
       (all-weaker (table-as-told s) _ (λ e p. and-true (of0 e) (of1 e) p .1) es h))
     where
       of0 : Entry → Bool
@@ -102,10 +96,10 @@ module _ (s : Setting) (es : List Entry) (rule8 : six-named es ≡ true) where
   unfolding blocks-on-granules all six-names
   rule-11 h =
       rw (
-        for-block 0 (omega arith) (name-there 2 (omega arith)) h,
-        for-block 1 (omega arith) (name-there 3 (omega arith)) h,
-        for-block 2 (omega arith) (name-there 4 (omega arith)) h,
-        for-block 3 (omega arith) (name-there 5 (omega arith)) h,
+        for-block 0 (omega arith) (named-there es rule8 2 (omega arith)) h,
+        for-block 1 (omega arith) (named-there es rule8 3 (omega arith)) h,
+        for-block 2 (omega arith) (named-there es rule8 4 (omega arith)) h,
+        for-block 3 (omega arith) (named-there es rule8 5 (omega arith)) h,
       )
 
 -- a rule that does not hold is not passed by every entry

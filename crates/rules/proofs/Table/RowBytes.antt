@@ -1,7 +1,7 @@
 -- The entries of a table with another count and other rows, by the bytes of those rows. Assumes nothing.
 use mathlib.Core.Path.{_≡_, refl, sym, ap, ap₂, _∙_}
 use mathlib.Core.List.{List, [], _∷_, _++_}
-use Prim.Native.Nat.{ℕ, zero, suc, _+_, _*_, _-_, _≤_, _<_}
+use Prim.Native.Nat.{ℕ, zero, suc, _+_, _*_, _≤_, _<_}
 use native.Mathlib.Omega.{arith}
 use lib.ListN.{length, take, drop, length-append, length-drop}
 use lib.Seq.{take-at, drop-at, take-append-le, length-take-le, drop-drop, take-add}
@@ -11,6 +11,7 @@ use Rattle.rules.specs.Commands.{padded-name, with-rows, new-range, new-
 use Rattle.rules.proofs.Lists.ByteLists.{bytes-append, bytes-take, bytes-drop, field-by-front}
 use Rattle.rules.proofs.Lists.Words.{length-bytes-of, bytes-of-bytes, little-endian-of-bytes}
 use Rattle.rules.proofs.Table.PutName.{with-name, entry-by-front, length-padded}
+use Rattle.rules.proofs.Table.RowLengths.{length-new-row}
 
 -- ---- fields behind other bytes
 
@@ -90,19 +91,6 @@ module _ (n : List ℕ) (start size : ℕ) (short : length n ≤ 15) (low : star
   abbrev fields : List ℕ
   fields = bytes-of 8 start ++ (bytes-of 4 size ++ bytes-of 4 0)
 
-  pub length-new-row : length (new-row n start size) ≡ 32
-  unfolding new-row
-  length-new-row =
-      rw (
-        length-append (padded-name n) fields,
-        length-append (bytes-of 8 start) (bytes-of 4 size ++ bytes-of 4 0),
-        length-append (bytes-of 4 size) (bytes-of 4 0),
-        length-padded n short,
-        length-bytes-of 8 start,
-        length-bytes-of 4 size,
-        length-bytes-of 4 0,
-      )
-
   new-row-entry : entry (new-row n start size) ≡ with-name n (new-range start size)
   unfolding entry new-row new-range
   new-row-entry = λ i. record {
@@ -130,7 +118,7 @@ module _ (n : List ℕ) (start size : ℕ) (short : length n ≤ 15) (low : star
   new-row-first y =
       ap {B = List Entry} (λ e. e ∷ [])
       (entry-by-front (new-row n start size) (new-row n start size ++ y)
-      (take-append-le 32 (new-row n start size) y (rw length-new-row (omega arith)))
+      (take-append-le 32 (new-row n start size) y (rw (length-new-row n start size short) (omega arith)))
       ∙ new-row-entry)
 
 -- ---- the table
@@ -148,19 +136,6 @@ module _ (t bs : List ℕ) (count : ℕ) (whole : length t ≡ block-size) (smal
 
   reserved-length : length reserved ≡ 20
   reserved-length = length-take-le 20 (drop 12 t) (rw (length-drop 12 t) (omega arith))
-
-  pub rows-length : length (with-rows t count bs) ≡ block-size
-  unfolding with-rows
-  rows-length =
-      rw (
-        length-append (take 8 t) (bytes-of 4 count ++ (reserved ++ bs)),
-        length-append (bytes-of 4 count) (reserved ++ bs),
-        length-append reserved bs,
-        front-length,
-        length-bytes-of 4 count,
-        reserved-length,
-      )
-      (omega arith)
 
   pub rows-bytes : Bytes t → Bytes bs → Bytes (with-rows t count bs)
   unfolding with-rows

@@ -19,7 +19,7 @@ use Rattle.rules.proofs.Table.Renaming.{Allowed}
 use Rattle.rules.proofs.Table.StartRule.{start-passes, start-aligned}
 use Rattle.rules.proofs.Table.Creating.{Fits, not-held, created-replaces, created-starts}
 use Rattle.rules.proofs.Table.Deleting.{deleted-replaces, deleted-starts}
-use Rattle.rules.proofs.Table.SlotStarts.{length-fits}
+use Rattle.rules.proofs.Table.SlotStarts.{length-fits, slots-by-starts}
 use Rattle.rules.proofs.Claim.Invariant.{Beginning, Invariant, BothEqual, table-standing, the-view, view-is, table-address, pointers-address}
 use Rattle.rules.proofs.Claim.JobRight.{JobRight}
 use Rattle.rules.proofs.Table.TableJobs.{table-whole, table-bytes, tables-right}
@@ -87,8 +87,7 @@ module _ (beginning : Beginning) (img : List ℕ) (r : Reading) (h : Invariant b
 
     -- ---- delete
 
-    module _ (k : ℕ) (there : k < length (slots (entries (r .table)))) (by-starts : k < length (starts (r .table)))
-        (idle : member k (r .boot) ≡ false) where
+    module _ (k : ℕ) (there : k < length (slots (entries (r .table)))) where
       abbrev d : List ℕ
       d = without-row (r .table) (slot-row (entries (r .table)) k)
 
@@ -98,16 +97,17 @@ module _ (beginning : Beginning) (img : List ℕ) (r : Reading) (h : Invariant b
           deleted-replaces s (length first) (r .table) k (table-whole beginning img r h equal)
           (table-standing beginning img r h) there (table-bytes beginning img r h equal)
 
-      order-lowered : order-by d (h .pointers) ≡ map (lowered k) (r .boot)
+      order-lowered : member k (r .boot) ≡ false → order-by d (h .pointers) ≡ map (lowered k) (r .boot)
       unfolding order-by
-      order-lowered =
+      order-lowered idle =
           let booted : order (starts (r .table)) (places (h .pointers)) ≡ r .boot = unfold order-by in h .boots in
           rw (deleted-starts s (length first) (r .table) k (table-whole beginning img r h equal)
           (table-standing beginning img r h) there)
-          (order-without-slot (starts (r .table)) (places (h .pointers)) k by-starts (rw booted idle)
+          (order-without-slot (starts (r .table)) (places (h .pointers)) k (slots-by-starts (r .table) k there) (rw booted idle)
           ∙ ap (map (lowered k)) booted)
 
-      pub delete-right : JobRight beginning img r (delete k) (delete-steps (s .spt0) (s .spt1) (r .table) k)
+      pub delete-right : member k (r .boot) ≡ false
+          → JobRight beginning img r (delete k) (delete-steps (s .spt0) (s .spt1) (r .table) k)
       unfolding delete-steps changed
-      delete-right =
-          tables-right beginning img r h equal d without-row-replaces (map (lowered k) (r .boot)) order-lowered
+      delete-right idle =
+          tables-right beginning img r h equal d without-row-replaces (map (lowered k) (r .boot)) (order-lowered idle)

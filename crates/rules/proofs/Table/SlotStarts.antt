@@ -17,7 +17,7 @@ use Rattle.rules.specs.Numbers.{longest, length-right}
 use Rattle.rules.specs.declared.Setting.{Setting}
 use Rattle.rules.specs.Table.{Entry, entries, name, boot-info, six-names, has-name, is-fixed-name, no-entry, named, range-aligned, range-inside, ranges-apart, six-named, boot-info-at-0, is-slot, slots, slot-starts, starts}
 use Rattle.rules.specs.Pointers.{erased-value, all-ones, all-zeros, one-more, slot-at}
-use Rattle.rules.proofs.Lists.Tests.{and-true, or-false}
+use Rattle.rules.proofs.Lists.Tests.{and-true}
 use Rattle.rules.proofs.Lists.Combinators.{all-at, all-of-none, all-of-kept, kept-pass, pairwise-of-kept, kept-no-more, first-of-all}
 use Rattle.rules.proofs.Order.Ordering.{slot-named, other-values-name}
 use Rattle.rules.proofs.Table.Standing.{Standing, at-most-127, length-entries, not-empty, a-block-long, ends-inside, Disjoint, disjoint, different-starts, off-named, named-disjoint, the-block, block-named, block-long}
@@ -26,6 +26,11 @@ pub length-fits : (len : ℕ) → length-right len ≡ true → len ≤ longest
 unfolding length-right
 length-fits len h =
     leb-true len longest (and-true (multiple block-size len && leb block-size len) (leb len longest) h .1)
+
+-- as many starts as slots
+pub slots-by-starts : (t : List ℕ) (k : ℕ) → k < length (slots (entries t)) → k < length (starts t)
+unfolding starts slot-starts
+slots-by-starts t k l = rw (length-map (slots (entries t)) (λ (e : Entry). e .start)) l
 
 -- each start names its own slot, is above 0 and inside the longest image; there are no more than entries
 pub record SlotStarts (xs : List ℕ) : Type 0 where

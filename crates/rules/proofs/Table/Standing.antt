@@ -79,6 +79,11 @@ pub length-entries : (t : List ℕ) → length (entries t) ≡ entry-count t
 unfolding entries
 length-entries t = length-entries-from (entry-count t) (drop 0x20 t)
 
+-- rule 8: the i-th of the six names is there
+pub named-there : (es : List Entry) → six-named es ≡ true → (i : ℕ) → i < 6 → any (has-name (getD six-names i [])) es ≡ true
+unfolding six-named six-names
+named-there es rule8 i l = all-at (λ n. any (has-name n) es) six-names [] i rule8 l
+
 pub not-empty : (e : Entry) → range-aligned e ≡ true → 0 < e .size
 unfolding range-aligned
 not-empty e h =

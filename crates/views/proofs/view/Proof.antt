@@ -1,7 +1,7 @@
 -- `reading::view` is the view of the flash: one case for refusals 1 to 3, for each table copy, and for no copy.
 -- Assumes nothing.
 use mathlib.Core.Path.{_≡_, sym, ap, _∙_}
-use mathlib.Core.Bool.{true, false}
+use mathlib.Core.Bool.{false}
 use lib.ListN.{length}
 use borrow.Author.Needs.{needs}
 use Rattle.rules.specs.Answers.{refused}

@@ -7,7 +7,8 @@ use Rattle.rules.specs.Readers.{slot-entry}
 use Rattle.rules.specs.Table.{entry-count, entries, starts, no-entry}
 use Rattle.rules.proofs.Table.Renaming.{slot-row-found}
 use Rattle.walks.proofs.Entries.{entry-of-rows}
-use Rattle.slots.proofs.RowsOf.{length-entries, count-is}
+use Rattle.rules.proofs.Table.Standing.{length-entries}
+use Rattle.slots.proofs.RowsOf.{count-is}
 use Rattle.blocks.proofs.Naming.{start-of-slot}
 use Rattle.blocks.proofs.tables.slot_start.Statement.{statement}
 use Rattle.blocks.proofs.tables.slot_start.Tie as tie

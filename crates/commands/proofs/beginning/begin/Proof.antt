@@ -1,6 +1,6 @@
 -- `begin` returns the refusal, or the job that the draft stands for. Assumes nothing.
 use borrow.Author.Needs.{needs}
-use Rattle.rules.specs.Answers.{refused, given}
+use Rattle.rules.specs.Answers.{given}
 use Rattle.commands.specs.Begins.{returned}
 use Rattle.drafts.specs.Inner.Drafted.{drafted, Sound}
 use Rattle.commands.proofs.beginning.begin.Statement.{statement}

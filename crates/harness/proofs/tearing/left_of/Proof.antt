@@ -1,5 +1,4 @@
 -- `left_of` is 0xFF for a byte that is wiped. Assumes nothing.
-use borrow.Author.Needs.{needs}
 use Rattle.harness.proofs.tearing.left_of.Statement.{statement}
 use Rattle.harness.proofs.tearing.left_of.Tie as tie
 

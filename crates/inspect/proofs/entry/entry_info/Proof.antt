@@ -2,8 +2,6 @@
 use mathlib.Core.Path.{refl, _∙_}
 use borrow.Author.Needs.{needs}
 use Rattle.rules.specs.Answers.{_>>=_}
-use Rattle.rules.specs.Bytes.{block}
-use Rattle.rules.specs.Table.{entries}
 use Rattle.reading.specs.Answers.{known}
 use Rattle.views.proofs.Opening.{was-viewed, was-refused, opened, has-entries}
 use Rattle.inspect.specs.Entries.{info-in, entry-info}

@@ -1,7 +1,6 @@
 -- `inspect::entry::entry_total` is the count of the table read, or a refusal of the view. Assumes nothing.
 use borrow.Author.Needs.{needs}
 use Rattle.rules.specs.Answers.{_>>=_}
-use Rattle.rules.specs.Bytes.{block}
 use Rattle.rules.specs.Table.{entry-count}
 use Rattle.views.proofs.Opening.{was-viewed, was-refused, opened}
 use Rattle.inspect.specs.Totals.{totalled}

@@ -1,6 +1,5 @@
 -- `inspect::entry::name_in` is the front of the name field of an entry that is counted, or an empty part. Assumes nothing.
 use mathlib.Core.Path.{sym}
-use native.Mathlib.Omega.{arith}
 use lib.Seq.{length-take-le}
 use borrow.Author.Needs.{needs}
 use Rattle.rules.specs.Table.{name}

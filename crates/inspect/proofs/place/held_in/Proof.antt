@@ -1,5 +1,4 @@
 -- `inspect::place::held_in` reads and judges a place, or refuses 93. Assumes nothing.
-use mathlib.Core.Path.{_≡_}
 use Prim.Native.Nat.{_<_}
 use native.Mathlib.Omega.{arith}
 use borrow.Author.Tests.{lt-ltb, le-ltb}
@@ -7,7 +6,7 @@ use borrow.Author.Needs.{needs}
 use Rattle.rules.specs.Answers.{unless}
 use Rattle.rules.specs.Pointers.{place-count}
 use Rattle.slots.specs.Inner.RowsOf.{rows-of}
-use Rattle.places.proofs.Free.{count-is}
+use Rattle.places.proofs.PlacesOf.{count-is}
 use Rattle.inspect.specs.Places.{held, held-in, holding}
 use Rattle.inspect.proofs.Numbered.{value-found}
 use Rattle.inspect.proofs.place.held_in.Statement.{statement}

@@ -1,8 +1,6 @@
 -- `inspect::place::place_total` is the count of places of the pointer block read, or a refusal of the view. Assumes nothing.
 use borrow.Author.Needs.{needs}
 use Rattle.rules.specs.Answers.{_>>=_}
-use Rattle.rules.specs.Bytes.{block}
-use Rattle.rules.specs.Pointers.{place-count}
 use Rattle.places.specs.Inner.PlacesOf.{places-of}
 use Rattle.views.proofs.Opening.{was-viewed, was-refused, opened, has-pointers}
 use Rattle.inspect.specs.Totals.{totalled}

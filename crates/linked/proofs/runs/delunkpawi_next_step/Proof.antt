@@ -2,7 +2,7 @@
 use mathlib.Core.Path.{_∙_}
 use borrow.Author.Needs.{needs}
 use Rattle.jobs.specs.Jobs.{next-of}
-use Rattle.job_bytes.proofs.Advancing.{length-of-job}
+use Rattle.held_jobs.proofs.Advancing.{length-of-job}
 use Rattle.codes.specs.StepNumbers.{step-kind, step-address, step-byte}
 use Rattle.codes.proofs.Numbered.{number-refused, kept-refused, number-given, kept-given}
 use Rattle.codes.proofs.Held.{holds-none, holds-one, job-held}

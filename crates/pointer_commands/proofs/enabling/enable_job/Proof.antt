@@ -8,7 +8,8 @@ use Rattle.rules.specs.Copies.{order-by}
 use Rattle.rules.specs.Commands.{free-place}
 use Rattle.rules.proofs.Pointers.PointerHeader.{places-fit}
 use Rattle.places.specs.Inner.PlacesOf.{free-from}
-use Rattle.places.proofs.Free.{free-by-value, offset-is, count-is, free-is}
+use Rattle.places.proofs.PlacesOf.{offset-is, count-is, free-is}
+use Rattle.place_walks.proofs.Free.{free-by-value}
 use Rattle.drafts.proofs.Drafting.{none-means, pair-means}
 use Rattle.pointer_commands.proofs.CommandJobs.{enable-none, enable-place, enable-rewrite}
 use Rattle.pointer_commands.proofs.enabling.enable_job.Statement.{statement}

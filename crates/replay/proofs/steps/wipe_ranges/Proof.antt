@@ -1,5 +1,5 @@
 -- `wipe_ranges` ends and keeps the length of its granule: one range fewer each turn. Assumes nothing.
-use mathlib.Core.Path.{_≡_, refl, _∙_}
+use mathlib.Core.Path.{_≡_, refl}
 use Prim.Native.Nat.{_-_}
 use lib.ListN.{length}
 use borrow.Author.Needs.{needs}

@@ -4,7 +4,7 @@ use Prim.Native.Nat.{_-_, _≤_}
 use native.Mathlib.Omega.{arith}
 use Rattle.rules.specs.Table.{starts}
 use Rattle.rules.specs.Pointers.{place-count}
-use Rattle.places.proofs.Free.{count-is}
+use Rattle.places.proofs.PlacesOf.{count-is}
 use Rattle.report.proofs.DeadPlaces.{dead-from, dead-here, dead-above, none-dead}
 use borrow.Author.Needs.{needs}
 use Rattle.report.proofs.dead.any_dead.Statement.{statement}

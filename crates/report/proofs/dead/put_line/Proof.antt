@@ -1,5 +1,4 @@
 -- `put_line` puts the line of a dead place, part by part, and nothing for one that is not dead. Assumes nothing.
-use mathlib.Core.Path.{sym, _∙_}
 use Rattle.walks.proofs.Joined.{failed, passed}
 use Rattle.text.proofs.Puts.{put-nothing, then}
 use Rattle.report.specs.Listing.{place-line}

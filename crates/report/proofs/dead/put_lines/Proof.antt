@@ -1,5 +1,4 @@
 -- `put_lines` puts a line for each dead place: after k turns those of the first k places are put. Assumes nothing.
-use mathlib.Core.Path.{_≡_}
 use Prim.Native.Nat.{_-_, _≤_}
 use native.Mathlib.Omega.{arith}
 use native.Mathlib.Nat.{zero-add}
@@ -7,7 +6,7 @@ use lib.ListN.{length, take}
 use lib.Seq.{take-all}
 use Rattle.rules.specs.Table.{starts}
 use Rattle.rules.specs.Pointers.{place-count, places as places-in}
-use Rattle.places.proofs.Free.{count-is}
+use Rattle.places.proofs.PlacesOf.{count-is}
 use Rattle.places.proofs.Values.{value-at, length-places}
 use Rattle.text.specs.Put.{Put}
 use Rattle.text.proofs.Puts.{put-nothing, keeps-length}

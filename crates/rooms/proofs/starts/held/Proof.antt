@@ -8,7 +8,7 @@ use Rattle.rules.specs.Lists.{member}
 use Rattle.rules.specs.Pointers.{places}
 use Rattle.walks.proofs.Loops.{member-here, member-goes}
 use Rattle.places.proofs.Values.{place-turn, place-over}
-use Rattle.places.proofs.Free.{count-is}
+use Rattle.places.proofs.PlacesOf.{count-is}
 use Rattle.rooms.proofs.starts.held.Statement.{statement}
 use Rattle.rooms.proofs.starts.held.Tie as tie
 

@@ -7,7 +7,6 @@ use lib.ListN.{take}
 use lib.Seq.{length-take-le}
 use Rattle.tokens.specs.Words.{later-words}
 use Rattle.tokens.specs.Numbers.{numbers}
-use Rattle.tokens.specs.declared.numbers.Row.{Row}
 use Rattle.tokens.proofs.WordsOfLine.{no-later, rest}
 use Rattle.tokens.proofs.Rows.{Read-from, none-read, one-read, all-read, count-inside, word-inside}
 use borrow.Author.Needs.{needs}

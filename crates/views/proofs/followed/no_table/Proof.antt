@@ -1,6 +1,6 @@
 -- `reading::followed::no_table` meets its contract. Assumes nothing.
 use mathlib.Core.Path.{_≡_, sym, ap₂, _∙_}
-use mathlib.Core.Bool.{Bool, true, false, _||_}
+use mathlib.Core.Bool.{true, false, _||_}
 use borrow.Author.Needs.{needs}
 use Rattle.rules.specs.Bytes.{block}
 use Rattle.rules.specs.Table.{magic-right}

@@ -1,0 +1,4 @@
+pub mod Putting
+pub mod OrderPacked
+pub mod Noting
+pub mod Walking
