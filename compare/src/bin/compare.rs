@@ -18,6 +18,8 @@ compare store DIRECTORY [--seed N]
     writes scripts to DIRECTORY/stdin and what they print to DIRECTORY/stdout
 compare speed
     measures order lists, starts and runs
+compare summary FILE..
+    tells several such measurements by calls, for each row the middle one
 compare places
     measures starts with the job's buffer and the image at every eighth byte of a page; wants the
     updater's library";
@@ -32,6 +34,7 @@ fn main() -> ExitCode {
             speed::measure();
             Ok(true)
         }
+        ["summary", files @ ..] if !files.is_empty() => summary(files),
         #[cfg(feature = "linked")]
         ["places"] => {
             speed::measure_places();
@@ -102,6 +105,13 @@ fn print_disagreement(first: &Disagreement) -> Result<(), String> {
     println!("  expected: {}", first.expected);
     println!("  printed:  {}", first.printed.as_deref().unwrap_or("(nothing)"));
     Ok(())
+}
+
+fn summary(files: &[&str]) -> Result<bool, String> {
+    let read = |file: &&str| fs::read_to_string(file).map_err(|error| format!("{file}: {error}"));
+    let texts: Vec<String> = files.iter().map(read).collect::<Result<_, _>>()?;
+    speed::summarize(&texts);
+    Ok(true)
 }
 
 fn store(directory: &Path, options: &[&str]) -> Result<bool, String> {

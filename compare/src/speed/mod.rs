@@ -6,8 +6,10 @@ mod independent;
 mod linked;
 #[cfg(feature = "linked")]
 mod placing;
+mod summary;
 
 pub use bench::measure;
+pub use summary::summarize;
 #[cfg(feature = "linked")]
 pub use placing::measure as measure_places;
 
