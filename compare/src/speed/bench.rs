@@ -21,9 +21,12 @@ const IMAGE_LENGTHS: [(&str, usize); 3] =
     [("64 KiB", 65_536), ("1 MiB", 1_048_576), ("256 MiB", 268_435_456)];
 /// BOOT_INFO, FACTORY_IMAGE and the four blocks, of 4,096 bytes each.
 const FIXED_NAMES: [&str; 6] = ["BOOT_INFO", "FACTORY_IMAGE", "SPT0", "SPT1", "CPB0", "CPB1"];
-/// The least time of these many rounds counts. The sides take turns, so that a machine that slows
-/// down for a while does so for all of them.
-const ROUNDS: usize = 60;
+/// Everything is measured so many times over, and the least time of a row counts: a machine that is
+/// slow for some seconds slows down one pass of a row and not all of it.
+const PASSES: usize = 5;
+/// Rounds of a row in one pass. The sides take turns, so that a machine that slows down for a moment
+/// does so for all of them.
+const ROUNDS: usize = 12;
 /// Calls in a round.
 pub(super) const CALLS: usize = 100;
 
@@ -61,13 +64,33 @@ fn sides() -> Vec<Side> {
     vec![Side::of::<Independent>()]
 }
 
+/// A row of the table: the flash, the call, and how long it takes each side.
+struct Row {
+    flash: String,
+    call: String,
+    times: Vec<f64>,
+}
+
 /// Measures everything and prints a table.
 pub fn measure() {
     keep_freed_memory();
     let sides = sides();
+    let mut rows = measure_once(&sides);
+    for _ in 1..PASSES {
+        for (row, again) in rows.iter_mut().zip(measure_once(&sides)) {
+            for (least, time) in row.times.iter_mut().zip(again.times) {
+                *least = least.min(time);
+            }
+        }
+    }
     let columns = if sides.len() == 2 { "independent | updater | ratio" } else { "ns" };
     println!("slots | used places | of | image | call | {columns}");
-    let mut ratios = Vec::new();
+    print_ratios(rows.iter().filter_map(print_row).collect());
+}
+
+/// One pass over everything.
+fn measure_once(sides: &[Side]) -> Vec<Row> {
+    let mut rows = Vec::new();
     for (length_name, image_length) in IMAGE_LENGTHS {
         for slots in SLOTS {
             // The image of 64 KiB has room for 3 slots only.
@@ -79,22 +102,21 @@ pub fn measure() {
             {
                 let used = used.min(shape.count as u64);
                 let flash = bench_flash(image_length, slots, *shape, used, 0);
-                let mut measured = measure_flash(&sides, &flash);
+                let mut measured = measure_flash(sides, &flash);
                 let one_outside = |slots: u64| bench_flash(image_length, slots, *shape, used, 1);
                 // With all 121 slots the table is full.
-                measured.extend(measure_creates(&sides, &one_outside(slots.min(MOST_SLOTS - 1))));
-                measured.extend(measure_deletes(&sides, &one_outside(slots)));
+                measured.extend(measure_creates(sides, &one_outside(slots.min(MOST_SLOTS - 1))));
+                measured.extend(measure_deletes(sides, &one_outside(slots)));
                 if slots == MOST_SLOTS && used == USED_PLACES[0] && *shape == Shape::OLD_EDITION {
-                    measured.extend(measure_refusals(&sides, &flash));
+                    measured.extend(measure_refusals(sides, &flash));
                 }
-                for (what, times) in measured {
-                    let flash = format!("{slots} | {used} | {} | {length_name}", shape.count);
-                    ratios.extend(print_row(&flash, &what, &times));
-                }
+                let flash = format!("{slots} | {used} | {} | {length_name}", shape.count);
+                let row = |(call, times)| Row { flash: flash.clone(), call, times };
+                rows.extend(measured.into_iter().map(row));
             }
         }
     }
-    print_ratios(ratios);
+    rows
 }
 
 /// Frees a large buffer, after which glibc no longer gives the heap's end back whenever a job there is
@@ -104,10 +126,11 @@ fn keep_freed_memory() {
     drop(black_box(vec![0u8; LARGE]));
 }
 
-fn print_row(flash: &str, what: &str, times: &[f64]) -> Option<f64> {
-    let columns: Vec<String> = times.iter().map(|time| format!("{time:.0}")).collect();
-    print!("{flash} | {what} | {}", columns.join(" | "));
-    let ratio = match times {
+/// Prints a row, and answers its ratio where there are two sides.
+fn print_row(row: &Row) -> Option<f64> {
+    let columns: Vec<String> = row.times.iter().map(|time| format!("{time:.0}")).collect();
+    print!("{} | {} | {}", row.flash, row.call, columns.join(" | "));
+    let ratio = match row.times[..] {
         [independent, updater] => Some(updater / independent),
         _ => None,
     };

@@ -9,9 +9,9 @@ mod placing;
 mod summary;
 
 pub use bench::measure;
-pub use summary::summarize;
 #[cfg(feature = "linked")]
 pub use placing::measure as measure_places;
+pub use summary::summarize;
 
 use crate::document::commands::Command;
 use crate::document::image::Geometry;

@@ -21,7 +21,8 @@ pub fn summarize(texts: &[String]) {
     let mut calls: BTreeMap<String, (Vec<f64>, Vec<f64>)> = BTreeMap::new();
     for (row, mut ratios) in rows {
         ratios.sort_by(f64::total_cmp);
-        let (middles, all) = calls.entry(kind(row.rsplit(" | ").next().unwrap_or(&row))).or_default();
+        let (middles, all) =
+            calls.entry(kind(row.rsplit(" | ").next().unwrap_or(&row))).or_default();
         middles.push(ratios[ratios.len() / 2]);
         all.extend(ratios);
     }

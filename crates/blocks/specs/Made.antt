@@ -11,6 +11,7 @@ use Rattle.jobs.specs.declared.Job.{Job}
 use Rattle.jobs.specs.declared.Plan.{Plan}
 use Rattle.jobs.specs.declared.Kind.the-variants.{Nothing, Rewrite, Places}
 use Rattle.blocks.specs.declared.PlaceList.{PlaceList}
+use Rattle.blocks.specs.declared.Target.{Target}
 
 -- a job with no step done: it denotes these steps, for an image of this length and with this granule
 pub record Lists (j : Job) (len granule : ℕ) (ss : List Step) : Type 0 where
@@ -29,6 +30,12 @@ no-places = replicate (2 * place-room) 0
 
 abbrev pub no-value : List ℕ
 no-value = replicate 8 0
+
+-- ---- the pair that a job is for
+
+-- an image of this length and its granule, and where copy 0 and copy 1 are
+abbrev pub target : ℕ → ℕ → ℕ → ℕ → Target
+target len granule a b = record { len = len; granule = granule; at0 = a; at1 = b }
 
 -- ---- blocks rewritten
 

@@ -6,8 +6,9 @@ use jobs::Kind;
 use jobs::Plan;
 ghost use mathlib.Core.Path.{_≡_};
 ghost use mathlib.Core.Bool.{true, false, cond};
+ghost use Prim.Native.Nat.{_≤_};
 ghost use Rattle.jobs.specs.declared.Kind.the-variants.{Nothing, Rewrite};
-ghost use Rattle.blocks.specs.Made.{rewrites-plan, places-plan, no-job};
+ghost use Rattle.blocks.specs.Made.{target, rewrites-plan, places-plan, no-job};
 
 // The job of no steps, for no image.
 pub fn no_job() -> Job
@@ -52,6 +53,19 @@ pub fn rewrites_plan(
         second: kind_of(second),
         after: after,
         count: 0,
+    }
+}
+
+// The pair whose copies are at two addresses.
+pub fn target(len: usize, granule: usize, at0: usize, at1: usize) -> Target
+    requires { ⌜ (at0 ≤ 0xFFFFFFFF) × (at1 ≤ 0xFFFFFFFF) ⌝ }
+    ensures { λ r. ⌜ r ≡ target len granule at0 at1 ⌝ }
+{
+    Target {
+        len: len,
+        granule: granule,
+        at0: at0 as u32,
+        at1: at1 as u32,
     }
 }
 

@@ -3,6 +3,7 @@
 use mathlib.Core.Path.{_≡_, ap}
 use mathlib.Core.List.{List}
 use Prim.Native.Nat.{ℕ, _+_, _≤_, _<_}
+use native.Mathlib.Omega.{arith}
 use lib.ListN.{length, getD}
 use Rattle.rules.specs.Bytes.{block, block-size}
 use Rattle.rules.specs.Answers.{given}
@@ -40,6 +41,13 @@ module _ {img : List ℕ} {v : View} (l : Located img v) where
     table = has-rows t r at-table er;
     pointers = record { block = has-pointers l p at-pointers; places = ek };
   }
+
+  -- addresses of a job's pair are stored in four bytes
+  pub tables-fit : (v .spt0 ≤ 0xFFFFFFFF) × (v .spt1 ≤ 0xFFFFFFFF)
+  tables-fit = (omega (arith, l .spt0-inside, l .short), omega (arith, l .spt1-inside, l .short))
+
+  pub pointers-fit : (v .cpb0 ≤ 0xFFFFFFFF) × (v .cpb1 ≤ 0xFFFFFFFF)
+  pointers-fit = (omega (arith, l .cpb0-inside, l .short), omega (arith, l .cpb1-inside, l .short))
 
 -- how many places a list has
 pub listed-count : {found : PlaceList} (ks : List ℕ) → found ≡ place-list ks → found .count ≡ length ks

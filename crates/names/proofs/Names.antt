@@ -1,4 +1,5 @@
--- How the length of a name, and the equality of two, go on from one byte to the next. Assumes nothing.
+-- How the bytes before one that stops them, and the equality of two names, go on from one byte to the next. Assumes
+-- nothing.
 use mathlib.Core.Path.{_≡_, refl, sym, _∙_}
 use mathlib.Core.Bool.{Bool, true, false, cond}
 use mathlib.Core.List.{List, [], _∷_}
@@ -10,23 +11,30 @@ use lib.Dec.{eqb}
 use borrow.Author.Tests.{eq-eqb, ne-eqb, eqb-true, eqb-false}
 use Rattle.rules.specs.Lists.{same}
 use Rattle.rules.specs.Bytes.{up-to-zero}
+use Rattle.names.specs.Before.{before}
 
--- ---- the length of a name
+-- ---- the length of a name, of a word, of a line
 
-module _ (a : List ℕ) (i : ℕ) where
-  pub length-ends : i < length a → getD a i 0 ≡ 0 → length (up-to-zero (drop i a)) ≡ 0
-  unfolding up-to-zero
-  length-ends h z = rw (drop-cons a i 0 h, eq-eqb (getD a i 0) 0 z)
+module _ (stop : ℕ) (bs : List ℕ) (i : ℕ) where
+  pub before-ends : i < length bs → getD bs i 0 ≡ stop → length (before stop (drop i bs)) ≡ 0
+  unfolding before
+  before-ends h e = rw (drop-cons bs i 0 h, eq-eqb (getD bs i 0) stop e)
 
-  pub length-goes : i < length a
-      → (getD a i 0 ≡ 0 → ⊥)
-      → length (up-to-zero (drop i a)) ≡ suc (length (up-to-zero (drop (suc i) a)))
-  unfolding up-to-zero
-  length-goes h z = rw (drop-cons a i 0 h, ne-eqb (getD a i 0) 0 z)
+  pub before-goes : i < length bs
+      → (getD bs i 0 ≡ stop → ⊥)
+      → length (before stop (drop i bs)) ≡ suc (length (before stop (drop (suc i) bs)))
+  unfolding before
+  before-goes h n = rw (drop-cons bs i 0 h, ne-eqb (getD bs i 0) stop n)
 
-  pub length-over : length a ≤ i → length (up-to-zero (drop i a)) ≡ 0
-  unfolding up-to-zero
-  length-over h = rw (drop-of-length-le a {i = i} h)
+  pub before-over : length bs ≤ i → length (before stop (drop i bs)) ≡ 0
+  unfolding before
+  before-over h = rw (drop-of-length-le bs {i = i} h)
+
+-- a name ends at its first zero
+pub before-zero : (bs : List ℕ) → before 0 bs ≡ up-to-zero bs
+unfolding before up-to-zero
+before-zero [] = refl
+before-zero (b ∷ bs) = rw (before-zero bs)
 
 -- ---- two names
 

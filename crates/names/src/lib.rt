@@ -1,10 +1,12 @@
-// Names up to their zero byte: the six fixed ones, how long one is, and whether two are the same.
+// Names up to their zero byte: the six fixed ones, how long one is, and whether two are the same. The length of a word or
+// of a line, which end at another byte, is found in the same way.
 ghost use mathlib.Core.Path.{_≡_};
 ghost use Prim.Native.Nat.{_≤_};
 ghost use lib.Dec.{eqb};
 ghost use lib.ListN.{length, getD};
 ghost use Rattle.rules.specs.Lists.{same};
 ghost use Rattle.rules.specs.Bytes.{up-to-zero};
+ghost use Rattle.names.specs.Before.{before};
 
 // The six names that a table must have; no slot has one of them.
 pub const BOOT_INFO: [u8; 9] = *b"BOOT_INFO";
@@ -19,18 +21,25 @@ pub const CPB0: [u8; 4] = *b"CPB0";
 
 pub const CPB1: [u8; 4] = *b"CPB1";
 
-// How many bytes are before the first zero.
-pub fn name_length(s: &[u8]) -> usize
-    ensures { λ r. ⌜ (r ≡ length (up-to-zero (now (s .entry)))) × (r ≤ length (now (s .entry))) ⌝ }
+// How many bytes stand before the first that equals `stop`.
+pub fn length_before(text: &[u8], stop: u8) -> usize
+    ensures { λ r. ⌜ (r ≡ length (before stop (now (text .entry)))) × (r ≤ length (now (text .entry))) ⌝ }
 {
     let mut i = 0;
-    while i < s.len() {
-        if s[i] == 0 {
+    while i < text.len() {
+        if text[i] == stop {
             return i;
         }
         i += 1;
     }
     i
+}
+
+// How many bytes are before the first zero.
+pub fn name_length(s: &[u8]) -> usize
+    ensures { λ r. ⌜ (r ≡ length (up-to-zero (now (s .entry)))) × (r ≤ length (now (s .entry))) ⌝ }
+{
+    length_before(s, 0)
 }
 
 // The two names are equal up to their zero bytes.

@@ -1,5 +1,4 @@
 // Disable, once the view of the flash is known.
-use blocks::Target;
 use blocks::made;
 use blocks::tables;
 use drafts::Draft;
@@ -34,14 +33,7 @@ pub fn disable_by(image: &[u8], setting: Setting, v: View, slot: SlotNo, room: &
             if found.count == 0 {
                 return Draft::Refused(NOT_IN_ORDER);
             }
-            let at0 = v.cpb0 as u32;
-            let at1 = v.cpb1 as u32;
-            let to = Target {
-                len: image.len(),
-                granule: setting.granule,
-                at0: at0,
-                at1: at1,
-            };
+            let to = made::target(image.len(), setting.granule, v.cpb0, v.cpb1);
             let table_at = v.table;
             let pointers_at = v.pointers;
             let t = fields::block_at(image, table_at);

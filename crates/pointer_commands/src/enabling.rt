@@ -49,14 +49,7 @@ pub fn enable_by(image: &[u8], setting: Setting, v: View, slot: SlotNo, room: &m
             if !packing::enough_places(t, rows, p, places, slot) {
                 return Draft::Refused(NO_PLACE_LEFT);
             }
-            let at0 = v.cpb0 as u32;
-            let at1 = v.cpb1 as u32;
-            let to = Target {
-                len: image.len(),
-                granule: setting.granule,
-                at0: at0,
-                at1: at1,
-            };
+            let to = made::target(image.len(), setting.granule, v.cpb0, v.cpb1);
             enable_job(t, rows, p, places, to, slot, start, room)
         }
     }

@@ -8,7 +8,6 @@ use super::steps;
 use fields::bounds::min;
 use libc::STDIN_FILENO;
 use script::Line;
-use tokens::words;
 
 // Nothing says that the input ends, so turns are counted down from a number that no run uses up.
 pub fn replay(room: &mut [u8], line: &mut [u8]) {
@@ -46,7 +45,7 @@ fn take_piece(desk: Desk, room: &mut [u8], line: &mut [u8], piece: &[u8]) -> Des
     let mut next = desk;
     let mut at = 0;
     while at < piece.len() {
-        let end = at + words::length_before(&piece[at..], b'\n');
+        let end = at + names::length_before(&piece[at..], b'\n');
         next = take_part(next, room, line, &piece[at..end], end < piece.len());
         if next.ended {
             return next;

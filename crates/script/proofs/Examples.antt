@@ -4,7 +4,8 @@ use mathlib.Core.List.{List, [], _∷_, map}
 use Prim.Native.String.{String}
 use Rattle.rules.specs.Lists.{same, all}
 use Rattle.script.specs.Text.{ascii}
-use Rattle.tokens.specs.Words.{before, later-words}
+use Rattle.names.specs.Before.{before}
+use Rattle.tokens.specs.Words.{later-words}
 use Rattle.tokens.specs.Hex.{hex-value, is-bytes}
 use Rattle.tokens.specs.Numbers.{digit, number-from, number, numbers, numbers-before-bytes}
 use Rattle.script.specs.Lines.{

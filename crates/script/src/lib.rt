@@ -4,7 +4,6 @@ mod lines; // the forms of a line
 use commands::Command;
 use rules::SlotNo;
 use tokens::numbers;
-use tokens::words;
 ghost use mathlib.Core.Path.{_≡_};
 ghost use Rattle.script.specs.Lines.{line-of};
 
@@ -55,7 +54,7 @@ pub fn line_of(line: &[u8]) -> Line
     if line[0] == b'#' {
         return Line::Nothing;
     }
-    let end = words::length_before(line, b' ');
+    let end = names::length_before(line, b' ');
     let verb = &line[..end];
     let row = numbers::numbers_of(line);
     let hexed = numbers::numbers_before_bytes(line);

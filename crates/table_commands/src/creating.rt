@@ -1,5 +1,4 @@
 // Create, once the view of the flash is known.
-use blocks::Target;
 use blocks::made;
 use blocks::tables;
 use drafts::Draft;
@@ -83,14 +82,7 @@ pub fn create_by(
             if len <= start {
                 return Draft::Refused(NO_START);
             }
-            let at0 = v.spt0 as u32;
-            let at1 = v.spt1 as u32;
-            let to = Target {
-                len: image.len(),
-                granule: setting.granule,
-                at0: at0,
-                at1: at1,
-            };
+            let to = made::target(image.len(), setting.granule, v.spt0, v.spt1);
             rows::put_new_row(t, n, name, start, long, room);
             Draft::Rewritten(made::pair_plan(to))
         }

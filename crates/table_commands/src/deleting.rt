@@ -1,5 +1,4 @@
 // Delete, once the view of the flash is known.
-use blocks::Target;
 use blocks::made;
 use drafts::Draft;
 use drafts::Outcome;
@@ -37,14 +36,7 @@ pub fn delete_by(image: &[u8], setting: Setting, v: View, slot: SlotNo, room: &m
             let t = fields::block_at(image, table_at);
             let n = entries::entry_count(t);
             let row = slots::slot_row(t, n, slot);
-            let at0 = v.spt0 as u32;
-            let at1 = v.spt1 as u32;
-            let to = Target {
-                len: image.len(),
-                granule: setting.granule,
-                at0: at0,
-                at1: at1,
-            };
+            let to = made::target(image.len(), setting.granule, v.spt0, v.spt1);
             rows::put_without_row(t, n, row, room);
             Draft::Rewritten(made::pair_plan(to))
         }

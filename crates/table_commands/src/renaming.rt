@@ -52,14 +52,7 @@ pub fn rename_by(
             if !tables::name_free(t, n, row, name) {
                 return Draft::Refused(NAME_TAKEN);
             }
-            let at0 = v.spt0 as u32;
-            let at1 = v.spt1 as u32;
-            let to = Target {
-                len: image.len(),
-                granule: setting.granule,
-                at0: at0,
-                at1: at1,
-            };
+            let to = made::target(image.len(), setting.granule, v.spt0, v.spt1);
             rename_job(t, row, name, to, room)
         }
     }

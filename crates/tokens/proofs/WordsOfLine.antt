@@ -4,37 +4,19 @@ use mathlib.Core.List.{List, [], _∷_, _++_}
 use Prim.Native.Nat.{ℕ, suc, _-_, _≤_, _<_}
 use native.Mathlib.Omega.{arith}
 use lib.Dec.{eqb}
-use lib.ListN.{length, getD, take, drop, length-drop, drop-of-length-le}
+use lib.ListN.{length, getD, take, drop, length-drop}
 use lib.Seq.{split-at, take-all, drop-cons}
-use borrow.Author.Tests.{eq-eqb, ne-eqb, eqb-true, eqb-false}
+use borrow.Author.Tests.{ne-eqb, eqb-true, eqb-false}
 use Rattle.rules.proofs.Lists.Tests.{by-cases}
-use Rattle.tokens.specs.Words.{before, space, first-word, later-words, last-of, last-word, Last-word-begins}
+use Rattle.names.specs.Before.{before}
+use Rattle.tokens.specs.Words.{space, first-word, later-words, last-of, last-word, Last-word-begins}
 
 -- ---- the bytes before one that stops them
 
-module _ (stop : ℕ) where
-  pub before-taken : (bs : List ℕ) → take (length (before stop bs)) bs ≡ before stop bs
-  unfolding before
-  before-taken [] = refl
-  before-taken (b ∷ bs) = by-cases (eqb b stop) (λ t. rw t) (λ t. rw (t, before-taken bs))
-
-  pub before-ends : (bs : List ℕ) (i : ℕ)
-      → i < length bs
-      → getD bs i 0 ≡ stop
-      → length (before stop (drop i bs)) ≡ 0
-  unfolding before
-  before-ends bs i h e = rw (drop-cons bs i 0 h, eq-eqb (getD bs i 0) stop e)
-
-  pub before-goes : (bs : List ℕ) (i : ℕ)
-      → i < length bs
-      → (getD bs i 0 ≡ stop → ⊥)
-      → length (before stop (drop i bs)) ≡ suc (length (before stop (drop (suc i) bs)))
-  unfolding before
-  before-goes bs i h n = rw (drop-cons bs i 0 h, ne-eqb (getD bs i 0) stop n)
-
-  pub before-over : (bs : List ℕ) (i : ℕ) → length bs ≤ i → length (before stop (drop i bs)) ≡ 0
-  unfolding before
-  before-over bs i h = rw (drop-of-length-le bs {i = i} h)
+before-taken : (stop : ℕ) (bs : List ℕ) → take (length (before stop bs)) bs ≡ before stop bs
+unfolding before
+before-taken stop [] = refl
+before-taken stop (b ∷ bs) = by-cases (eqb b stop) (λ t. rw t) (λ t. rw (t, before-taken stop bs))
 
 -- ---- parts of a text, as code takes them
 

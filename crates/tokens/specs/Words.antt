@@ -6,11 +6,7 @@ use mathlib.Core.List.{List, [], _∷_}
 use Prim.Native.Nat.{ℕ, _-_, _≤_, _<_}
 use lib.Dec.{eqb}
 use lib.ListN.{length, getD, drop}
-
--- the bytes before the first that equals `stop`
-unfoldable pub before : ℕ → List ℕ → List ℕ
-before stop [] = []
-before stop (b ∷ bs) = cond (eqb b stop) [] (b ∷ before stop bs)
+use Rattle.names.specs.Before.{before}
 
 abbrev pub space : ℕ
 space = 0x20

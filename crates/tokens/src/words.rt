@@ -2,21 +2,7 @@
 ghost use mathlib.Core.Path.{_≡_};
 ghost use Prim.Native.Nat.{_≤_};
 ghost use lib.ListN.{length};
-ghost use Rattle.tokens.specs.Words.{before, Last-word-begins};
-
-// How many bytes stand before the first that equals `stop`.
-pub fn length_before(text: &[u8], stop: u8) -> usize
-    ensures { λ r. ⌜ (r ≡ length (before stop (now (text .entry)))) × (r ≤ length (now (text .entry))) ⌝ }
-{
-    let mut i = 0;
-    while i < text.len() {
-        if text[i] == stop {
-            return i;
-        }
-        i += 1;
-    }
-    i
-}
+ghost use Rattle.tokens.specs.Words.{Last-word-begins};
 
 // Where the bytes after the last space begin.
 pub fn last_word_start(line: &[u8]) -> usize

@@ -19,7 +19,7 @@ use Rattle.views.proofs.Opening.{located, has-entries}
 use Rattle.drafts.specs.JobFor.{disable-job, job-by}
 use Rattle.drafts.specs.Inner.Drafted.{Drafts, Means}
 use Rattle.drafts.specs.declared.Draft.{Draft}
-use Rattle.drafts.proofs.Locating.{listed-count}
+use Rattle.drafts.proofs.Locating.{listed-count, pointers-fit}
 use Rattle.pointer_commands.proofs.CommandJobs.{disable-rewrite, disable-in-place}
 use Rattle.drafts.proofs.Drafting.{pair-means, drafts-refused}
 use Rattle.drafts.proofs.Asking.{disable-refused, disable-refused-8, disable-started, slot-counted}
@@ -65,63 +65,60 @@ returns c =
     (at-ask-slot .ask-slot .ensures) (c .before .before .before .before .enum-told .given .1) (table-of s) (pointers-of-flash s) refl refl
     (giving s) refl none)
 
-cast-at0 : tie.Need-cast-at0
-cast-at0 c = let l = where-blocks-are (c .before .before .before .before .before .before .before .before .before .before) in omega (arith, l .cpb0-inside, l .short)
-
-cast-at1 : tie.Need-cast-at1
-cast-at1 c = let l = where-blocks-are (c .before .before .before .before .before .before .before .before .before .before .before) in omega (arith, l .cpb1-inside, l .short)
+target-requires : tie.Need-target-requires
+target-requires c κs = pointers-fit (where-blocks-are (c .before .before .before .before .before .before .before .before .before))
 
 half-cleared-names-requires : tie.Need-half-cleared-names-requires
 half-cleared-names-requires c κs =
     let t = c .before .before .before .block-at .result .now in
-    let rows = c .before .before .before .before .before .before .before .before .before .slot-places .result .rows in
-    let read = c .before .before .before .before .before .before .before .before .before .slot-places .ensures .read in
-    has-entries (where-blocks-are (c .before .before .before .before .before .before .before .before .before .before .before .before .before .before .before)) t (rows .count) (c .before .before .before .block-at .ensures)
+    let rows = c .before .before .before .before .before .before .before .before .slot-places .result .rows in
+    let read = c .before .before .before .before .before .before .before .before .slot-places .ensures .read in
+    has-entries (where-blocks-are (c .before .before .before .before .before .before .before .before .before .before .before .before .before .before)) t (rows .count) (c .before .before .before .block-at .ensures)
     (count-is t rows (rw (c .before .before .before .block-at .ensures .0) (read .table)))
 
 -- the test speaks of the table's starts
 half-cleared : (c : tie.After-half-cleared-names)
     → c .half-cleared-names .result
-    ≡ half-cleared-names (starts (table-of (c .before .before .before .before .before .before .before .before .before .before .before .before .before .before .before .before))) (c .before .before .before .before .before .before .before .before .before .before .slot-places .result .start)
+    ≡ half-cleared-names (starts (table-of (c .before .before .before .before .before .before .before .before .before .before .before .before .before .before .before))) (c .before .before .before .before .before .before .before .before .before .slot-places .result .start)
 unfolding starts
 half-cleared c =
-    let s = c .before .before .before .before .before .before .before .before .before .before .before .before .before .before .before .before in
-    rw (← counted-rows (table-of s) (c .before .before .before .before .before .before .before .before .before .before .slot-places .result .rows) (c .before .before .before .before .before .before .before .before .before .before .slot-places .ensures .read .table))
+    let s = c .before .before .before .before .before .before .before .before .before .before .before .before .before .before .before in
+    rw (← counted-rows (table-of s) (c .before .before .before .before .before .before .before .before .before .slot-places .result .rows) (c .before .before .before .before .before .before .before .before .before .slot-places .ensures .read .table))
     (rw (c .before .before .before .before .block-at .ensures .0) at (c .half-cleared-names .ensures))
 
 order-without-requires : tie.Need-order-without-requires
 order-without-requires c κs = (
-  rw (c .before .before .before .before .before .before .block-at .ensures .0, c .before .before .before .before .before .block-at2 .ensures .0) (c .before .before .before .before .before .before .before .before .before .before .before .before .slot-places .ensures .read),
-  c .before .before .before .before .before .before .before .before .before .before .before .before .before .before .before .before .before .before .pre .1,
+  rw (c .before .before .before .before .before .before .block-at .ensures .0, c .before .before .before .before .before .block-at2 .ensures .0) (c .before .before .before .before .before .before .before .before .before .before .before .slot-places .ensures .read),
+  c .before .before .before .before .before .before .before .before .before .before .before .before .before .before .before .before .before .pre .1,
 )
 
 -- the places of the slot are there, so that what is drafted is the command's
 is-started : (c : tie.After-half-cleared-names) (room : List ℕ) (d : Draft)
-    → let s = c .before .before .before .before .before .before .before .before .before .before .before .before .before .before .before .before in
+    → let s = c .before .before .before .before .before .before .before .before .before .before .before .before .before .before .before in
     let a = s .args in
     Means room d (given (disable-job (length (a .image .now)) (a .setting .granule) (a .v .cpb0) (a .v .cpb1)
     (starts (table-of s)) (pointers-of-flash s) (a .slot .0)))
     → Drafts (a .image .now) room d (job-by (a .setting) (a .image .now) (a .v) (disable (a .slot .0)))
 is-started c room d m =
-    let at-ask-slot = c .before .before .before .before .before .before .before .before .before .before .before .before .before in
-    let s = c .before .before .before .before .before .before .before .before .before .before .before .before .before .before .before .before in
+    let at-ask-slot = c .before .before .before .before .before .before .before .before .before .before .before .before in
+    let s = c .before .before .before .before .before .before .before .before .before .before .before .before .before .before .before in
     let a = s .args in
     let some : 0 < length (giving s) =
-    omega (arith, listed-count (giving s) (c .before .before .before .before .before .before .before .before .before .before .slot-places .ensures .found), c .before .before .before .before .before .before .before .if1 .left) in
+    omega (arith, listed-count (giving s) (c .before .before .before .before .before .before .before .before .before .slot-places .ensures .found), c .before .before .before .before .before .before .if1 .left) in
     disable-started (a .setting) (a .image .now) (a .v) (s .pre .0) (a .slot .0) (at-ask-slot .ask-slot .result)
-    (at-ask-slot .ask-slot .ensures) (c .before .before .before .before .before .before .before .before .before .before .before .enum-told .given .1) (table-of s) (pointers-of-flash s) refl refl
+    (at-ask-slot .ask-slot .ensures) (c .before .before .before .before .before .before .before .before .before .before .enum-told .given .1) (table-of s) (pointers-of-flash s) refl refl
     (giving s) refl some room d m
 
 returns-2 : tie.Need-returns-2
 unfolding order-by
 returns-2 c =
     let at-test = c .before .before .before .before .before .before in
-    let s = c .before .before .before .before .before .before .before .before .before .before .before .before .before .before .before .before .before .before .before .before .before .before in
+    let s = c .before .before .before .before .before .before .before .before .before .before .before .before .before .before .before .before .before .before .before .before .before in
     let a = s .args in
-    let given = c .before .before .before .before .before .before .before .before .before .before .before .before .before .before .before .before .slot-places in
+    let given = c .before .before .before .before .before .before .before .before .before .before .before .before .before .before .before .slot-places in
     is-started at-test _ _
     (pair-means (length (a .image .now)) (a .setting .granule) (c .pair-plan .result) _ (a .v .cpb0) (a .v .cpb1) _
-    (c .pair-plan .ensures)
+    (rw (c .before .before .before .before .before .before .before .before .before .before .before .target .ensures) at (c .pair-plan .ensures))
     (disable-rewrite (length (a .image .now)) (a .setting .granule) (a .v .cpb0) (a .v .cpb1) (starts (table-of s))
     (pointers-of-flash s) (a .slot .0) (given .result .start) (given .ensures .start) _
     (sym (half-cleared at-test) ∙ c .before .before .before .before .before .if2 .taken)
@@ -129,13 +126,13 @@ returns-2 c =
 
 cast-into-places : tie.Need-cast-into-places
 cast-into-places c =
-    let p = pointers-of-flash (c .before .before .before .before .before .before .before .before .before .before .before .before .before .before .before .before .before .before) in
-    let given = c .before .before .before .before .before .before .before .before .before .before .before .before .slot-places in
+    let p = pointers-of-flash (c .before .before .before .before .before .before .before .before .before .before .before .before .before .before .before .before .before) in
+    let given = c .before .before .before .before .before .before .before .before .before .before .before .slot-places in
     let h = given .ensures .read .pointers in
     omega (arith, places-fit p (h .block .stands) .in-block, offset-is p (given .result .places) h)
 
 into-places-requires : tie.Need-into-places-requires
-into-places-requires c κs = c .before .before .before .before .before .before .before .before .before .before .before .before .before .before .before .before .before .before .before .pre .1
+into-places-requires c κs = c .before .before .before .before .before .before .before .before .before .before .before .before .before .before .before .before .before .before .pre .1
 
 returns-3 : tie.Need-returns-3
 returns-3 c =
@@ -151,15 +148,18 @@ returns-3 c =
 returns-4 : tie.Need-returns-4
 returns-4 c =
     let at-test = c .before .before .before .before .before .before in
-    let s = c .before .before .before .before .before .before .before .before .before .before .before .before .before .before .before .before .before .before .before .before .before .before in
+    let s = c .before .before .before .before .before .before .before .before .before .before .before .before .before .before .before .before .before .before .before .before .before in
     let a = s .args in
-    let given = c .before .before .before .before .before .before .before .before .before .before .before .before .before .before .before .before .slot-places in
+    let given = c .before .before .before .before .before .before .before .before .before .before .before .before .before .before .before .slot-places in
     is-started at-test _ _
-    (rw (disable-in-place (length (a .image .now)) (a .setting .granule) (a .v .cpb0) (a .v .cpb1) (starts (table-of s))
-    (pointers-of-flash s) (a .slot .0) (given .result .start) (given .ensures .start) (given .result .places .offset)
-    (given .result .found) _
-    (sym (half-cleared at-test) ∙ c .before .before .before .before .before .if2 .left)
-    (offset-is (pointers-of-flash s) (given .result .places) (given .ensures .read .pointers)) (given .ensures .found) refl)
+    (rw (
+      c .before .before .before .before .before .before .before .before .before .before .before .target .ensures,
+      disable-in-place (length (a .image .now)) (a .setting .granule) (a .v .cpb0) (a .v .cpb1) (starts (table-of s))
+          (pointers-of-flash s) (a .slot .0) (given .result .start) (given .ensures .start) (given .result .places .offset)
+          (given .result .found) _
+          (sym (half-cleared at-test) ∙ c .before .before .before .before .before .if2 .left)
+          (offset-is (pointers-of-flash s) (given .result .places) (given .ensures .read .pointers)) (given .ensures .found) refl,
+    )
     at (c .before .before .into-places .ensures))
 
 pub disable-by-spec : {M : Type 1} → statement M
@@ -171,10 +171,9 @@ disable-by-spec =
     enum-told
     slot-places-requires
     returns
-    cast-at0
-    cast-at1
-    (λ c κs. where-blocks-are (c .before .before .before .before .before .before .before .before .before .before .before) .table-inside)
-    (λ c κs. where-blocks-are (c .before .before .before .before .before .before .before .before .before .before .before .before) .pointers-inside)
+    target-requires
+    (λ c κs. where-blocks-are (c .before .before .before .before .before .before .before .before .before .before) .table-inside)
+    (λ c κs. where-blocks-are (c .before .before .before .before .before .before .before .before .before .before .before) .pointers-inside)
     half-cleared-names-requires
     order-without-requires
     (λ c κs. search needs)

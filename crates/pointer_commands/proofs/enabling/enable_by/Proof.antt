@@ -11,7 +11,7 @@ use Rattle.rules.specs.Commands.{enable}
 use Rattle.views.specs.Inner.Located.{Located}
 use Rattle.views.proofs.Opening.{located, has-entries, has-pointers}
 use Rattle.pointer_blocks.specs.Inner.Walked.{Readable}
-use Rattle.drafts.proofs.Locating.{has-rows, readable}
+use Rattle.drafts.proofs.Locating.{has-rows, readable, pointers-fit}
 use Rattle.drafts.proofs.Drafting.{drafts-refused}
 use Rattle.drafts.proofs.Asking.{enable-refused, enable-refused-14, enable-refused-15, enable-started, slot-counted, begins-inside}
 use Rattle.pointer_commands.proofs.enabling.enable_by.Statement.{statement}
@@ -138,27 +138,22 @@ returns-2 c =
     (at-block-at2 .block-at2 .result .now) (at-block-at2 .block-at2 .ensures .0)
     (sym (at-enough-places .enough-places .ensures) ∙ not-true _ (at-if2 .if2 .taken)))
 
-cast-at0 : tie.Need-cast-at0
-cast-at0 c =
-    let s = c .before .before .before .before .before .before .before .before .before .before .before .before .before .before .before in
-    let l = where-blocks-are s in omega (arith, l .cpb0-inside, l .short)
-
-cast-at1 : tie.Need-cast-at1
-cast-at1 c =
-    let s = c .before .before .before .before .before .before .before .before .before .before .before .before .before .before .before .before in
-    let l = where-blocks-are s in omega (arith, l .cpb1-inside, l .short)
+target-requires : tie.Need-target-requires
+target-requires c κs =
+    let s = c .before .before .before .before .before .before .before .before .before .before .before .before .before .before in
+    let fit = pointers-fit (where-blocks-are s) in (omega arith, omega arith)
 
 enable-job-requires : tie.Need-enable-job-requires
 enable-job-requires c κs =
-    let at-if2 = c .before .before .before in
-    let at-enough-places = c .before .before .before .before in
-    let at-places-of = c .before .before .before .before .before in
-    let at-slot-start = c .before .before .before .before .before .before .before .before .before in (
+    let at-if2 = c .before .before in
+    let at-enough-places = c .before .before .before in
+    let at-places-of = c .before .before .before .before in
+    let at-slot-start = c .before .before .before .before .before .before .before .before in (
       (
         blocks-read at-places-of,
         sym (at-enough-places .enough-places .ensures) ∙ not-false _ (at-if2 .if2 .left),
       ),
-      (at-slot-start .slot-start .ensures, c .before .before .before .before .before .before .before .before .before .before .before .before .before .before .before .before .before .pre .1),
+      (at-slot-start .slot-start .ensures, c .before .before .before .before .before .before .before .before .before .before .before .before .before .before .before .before .pre .1),
     )
 
 returns-3 : tie.Need-returns-3
@@ -174,16 +169,16 @@ returns-3 c =
 
 returns-4 : tie.Need-returns-4
 returns-4 c =
-    let at-if2 = c .before .before .before .before .before .before in
-    let at-enough-places = c .before .before .before .before .before .before .before in
-    let at-block-at2 = c .before .before .before .before .before .before .before .before .before in
-    let at-if1 = c .before .before .before .before .before .before .before .before .before .before in
-    let at-is-erased = c .before .before .before .before .before .before .before .before .before .before .before in
-    let at-slot-start = c .before .before .before .before .before .before .before .before .before .before .before .before in
-    let at-block-at = c .before .before .before .before .before .before .before .before .before .before .before .before .before .before in
-    let at-enum-told = c .before .before .before .before .before .before .before .before .before .before .before .before .before .before .before in
-    let at-ask-slot = c .before .before .before .before .before .before .before .before .before .before .before .before .before .before .before .before .before in
-    let s = c .before .before .before .before .before .before .before .before .before .before .before .before .before .before .before .before .before .before .before .before in
+    let at-if2 = c .before .before .before .before .before in
+    let at-enough-places = c .before .before .before .before .before .before in
+    let at-block-at2 = c .before .before .before .before .before .before .before .before in
+    let at-if1 = c .before .before .before .before .before .before .before .before .before in
+    let at-is-erased = c .before .before .before .before .before .before .before .before .before .before in
+    let at-slot-start = c .before .before .before .before .before .before .before .before .before .before .before in
+    let at-block-at = c .before .before .before .before .before .before .before .before .before .before .before .before .before in
+    let at-enum-told = c .before .before .before .before .before .before .before .before .before .before .before .before .before .before in
+    let at-ask-slot = c .before .before .before .before .before .before .before .before .before .before .before .before .before .before .before .before in
+    let s = c .before .before .before .before .before .before .before .before .before .before .before .before .before .before .before .before .before .before .before in
     let a = s .args in
     enable-started (a .setting) (a .image .now) (a .v) (s .pre .0) (a .slot .0) (at-ask-slot .ask-slot .result)
     (at-ask-slot .ask-slot .ensures) (at-enum-told .enum-told .given .1) (at-block-at .block-at .result .now)
@@ -191,7 +186,8 @@ returns-4 c =
     (sym (at-is-erased .is-erased .ensures) ∙ at-if1 .if1 .left)
     (at-block-at2 .block-at2 .result .now) (at-block-at2 .block-at2 .ensures .0)
     (sym (at-enough-places .enough-places .ensures) ∙ not-false _ (at-if2 .if2 .left))
-    _ (c .before .before .enable-job .result) (c .before .before .enable-job .ensures)
+    _ (c .before .before .enable-job .result)
+    (rw (c .before .before .before .before .target .ensures) at (c .before .before .enable-job .ensures))
 
 pub enable-by-spec : {M : Type 1} → statement M
 enable-by-spec =
@@ -209,8 +205,7 @@ enable-by-spec =
     places-of-requires
     enough-places-requires
     returns-2
-    cast-at0
-    cast-at1
+    target-requires
     enable-job-requires
     returns-3
     (λ c. search needs)

@@ -5,6 +5,7 @@ use Rattle.rules.specs.Commands.{create}
 use Rattle.rules.proofs.Table.Renaming.{allowed}
 use Rattle.views.specs.Inner.Located.{Located}
 use Rattle.views.proofs.Opening.{located, has-entries, has-pointers}
+use Rattle.drafts.proofs.Locating.{tables-fit}
 use Rattle.drafts.proofs.Drafting.{drafts-refused}
 use Rattle.table_commands.proofs.NewAsked.{placed, create-refused, create-refused-42, create-started, name-passed, size-passed, row-left}
 use borrow.Author.Needs.{needs}
@@ -88,23 +89,16 @@ returns c =
     (at-block .block-at .ensures .0) (at-block2 .block-at2 .ensures .0) (at-count .entry-count .ensures)
     (at-start .lowest-start .ensures) (omega arith))
 
-cast-at0 : tie.Need-cast-at0
-cast-at0 c =
-    let s = c .before .before .before .before .before .before .before .before .before .before .before .before .before in
-    let l = where-blocks-are s in omega (arith, l .spt0-inside, l .short)
-
-cast-at1 : tie.Need-cast-at1
-cast-at1 c =
-    let s = c .before .before .before .before .before .before .before .before .before .before .before .before .before .before in
-    let l = where-blocks-are s in omega (arith, l .spt1-inside, l .short)
+target-requires : tie.Need-target-requires
+target-requires c κs = tables-fit (where-blocks-are (c .before .before .before .before .before .before .before .before .before .before .before .before))
 
 put-new-row-requires : tie.Need-put-new-row-requires
 put-new-row-requires c κs =
-    let at-count = c .before .before .before .before .before .before in
-    let at-block = c .before .before .before .before .before .before .before .before in
-    let at-told = c .before .before .before .before .before .before .before .before .before in
-    let at-ask = c .before .before .before .before .before .before .before .before .before .before .before in
-    let s = c .before .before .before .before .before .before .before .before .before .before .before .before .before .before .before in
+    let at-count = c .before .before .before .before .before in
+    let at-block = c .before .before .before .before .before .before .before in
+    let at-told = c .before .before .before .before .before .before .before .before in
+    let at-ask = c .before .before .before .before .before .before .before .before .before .before in
+    let s = c .before .before .before .before .before .before .before .before .before .before .before .before .before .before in
     let a = s .args in
     let img = a .image .now in
     let left = row-left (a .setting) img (a .v) (s .pre .0) (a .name .now) (a .size) (at-ask .ask-new .result)
@@ -131,14 +125,14 @@ returns-2 c =
 
 returns-3 : tie.Need-returns-3
 returns-3 c =
-    let at-if = c .before .before .before .before .before .before .before in
-    let at-start = c .before .before .before .before .before .before .before .before in
-    let at-count = c .before .before .before .before .before .before .before .before .before .before in
-    let at-block2 = c .before .before .before .before .before .before .before .before .before .before .before in
-    let at-block = c .before .before .before .before .before .before .before .before .before .before .before .before in
-    let at-told = c .before .before .before .before .before .before .before .before .before .before .before .before .before in
-    let at-ask = c .before .before .before .before .before .before .before .before .before .before .before .before .before .before .before in
-    let s = c .before .before .before .before .before .before .before .before .before .before .before .before .before .before .before .before .before .before .before in
+    let at-if = c .before .before .before .before .before .before in
+    let at-start = c .before .before .before .before .before .before .before in
+    let at-count = c .before .before .before .before .before .before .before .before .before in
+    let at-block2 = c .before .before .before .before .before .before .before .before .before .before in
+    let at-block = c .before .before .before .before .before .before .before .before .before .before .before in
+    let at-told = c .before .before .before .before .before .before .before .before .before .before .before .before in
+    let at-ask = c .before .before .before .before .before .before .before .before .before .before .before .before .before .before in
+    let s = c .before .before .before .before .before .before .before .before .before .before .before .before .before .before .before .before .before .before in
     let a = s .args in
     let img = a .image .now in
     create-started (a .setting) img (a .v) (s .pre .0) (a .name .now) (a .size) (at-ask .ask-new .result)
@@ -146,7 +140,7 @@ returns-3 c =
     (at-block2 .block-at2 .result .now) (at-count .entry-count .result) (at-start .lowest-start .result)
     (at-block .block-at .ensures .0) (at-block2 .block-at2 .ensures .0) (at-count .entry-count .ensures)
     (at-start .lowest-start .ensures) (omega arith) (c .pair-plan .result) _
-    (c .pair-plan .ensures) (c .before .before .before .put-new-row .ensures)
+    (rw (c .before .before .before .before .before .target .ensures) at (c .pair-plan .ensures)) (c .before .before .before .put-new-row .ensures)
 
 pub create-by-spec : {M : Type 1} → statement M
 create-by-spec =
@@ -161,8 +155,7 @@ create-by-spec =
     places-of-requires
     lowest-start-requires
     returns
-    cast-at0
-    cast-at1
+    target-requires
     put-new-row-requires
     (λ c κs. search needs)
     returns-2

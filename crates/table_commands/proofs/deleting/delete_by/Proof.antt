@@ -10,7 +10,7 @@ use Rattle.walks.specs.Entries.{most-entries}
 use Rattle.pointer_blocks.specs.Inner.Walked.{places-giving}
 use Rattle.views.specs.Inner.Located.{Located}
 use Rattle.views.proofs.Opening.{located, has-entries}
-use Rattle.drafts.proofs.Locating.{listed-count}
+use Rattle.drafts.proofs.Locating.{listed-count, tables-fit}
 use Rattle.drafts.proofs.Drafting.{drafts-refused}
 use Rattle.drafts.proofs.Asking.{slot-counted, row-below}
 use Rattle.table_commands.proofs.NewAsked.{delete-refused, delete-refused-43, delete-started}
@@ -58,19 +58,16 @@ slot-row-requires c κs =
     has-entries (where-blocks-are (c .before .before .before .before .before .before .before .before .before .before .before)) (c .before .block-at .result .now)
     (c .entry-count .result) (c .before .block-at .ensures) (c .entry-count .ensures)
 
-cast-at0 : tie.Need-cast-at0
-cast-at0 c = let l = where-blocks-are (c .before .before .before .before .before .before .before .before .before .before .before .before .before) in omega (arith, l .spt0-inside, l .short)
-
-cast-at1 : tie.Need-cast-at1
-cast-at1 c = let l = where-blocks-are (c .before .before .before .before .before .before .before .before .before .before .before .before .before .before) in omega (arith, l .spt1-inside, l .short)
+target-requires : tie.Need-target-requires
+target-requires c κs = tables-fit (where-blocks-are (c .before .before .before .before .before .before .before .before .before .before .before .before))
 
 put-without-row-requires : tie.Need-put-without-row-requires
 put-without-row-requires c κs =
-    let at-slot-row = c .before .before .before in
-    let at-entry-count = c .before .before .before .before in
-    let at-block-at = c .before .before .before .before .before in
-    let at-ask-slot = c .before .before .before .before .before .before .before .before .before .before .before .before in
-    let s = c .before .before .before .before .before .before .before .before .before .before .before .before .before .before .before in
+    let at-slot-row = c .before .before in
+    let at-entry-count = c .before .before .before in
+    let at-block-at = c .before .before .before .before in
+    let at-ask-slot = c .before .before .before .before .before .before .before .before .before .before .before in
+    let s = c .before .before .before .before .before .before .before .before .before .before .before .before .before .before in
     let a = s .args in
     let t = at-block-at .block-at .result .now in
     let n = at-entry-count .entry-count .result in
@@ -79,7 +76,7 @@ put-without-row-requires c κs =
       (at-block-at .block-at .ensures .1, (at-entry-count .entry-count .ensures, few)),
       (
         row-below (a .setting) (a .image .now) (a .v) (s .pre .0) (a .slot .0) (at-ask-slot .ask-slot .result)
-            (at-ask-slot .ask-slot .ensures) (c .before .before .before .before .before .before .before .before .before .before .enum-told .given .1) t n
+            (at-ask-slot .ask-slot .ensures) (c .before .before .before .before .before .before .before .before .before .enum-told .given .1) t n
             (at-block-at .block-at .ensures .0) (at-entry-count .entry-count .ensures)
             (at-slot-row .slot-row .result .0) (at-slot-row .slot-row .ensures .0),
         s .pre .1,
@@ -98,21 +95,21 @@ returns-2 c =
 
 returns-3 : tie.Need-returns-3
 returns-3 c =
-    let at-slot-row = c .before .before .before .before .before .before .before in
-    let at-entry-count = c .before .before .before .before .before .before .before .before in
-    let at-block-at = c .before .before .before .before .before .before .before .before .before in
-    let at-ask-slot = c .before .before .before .before .before .before .before .before .before .before .before .before .before .before .before .before in
-    let s = c .before .before .before .before .before .before .before .before .before .before .before .before .before .before .before .before .before .before .before in
+    let at-slot-row = c .before .before .before .before .before .before in
+    let at-entry-count = c .before .before .before .before .before .before .before in
+    let at-block-at = c .before .before .before .before .before .before .before .before in
+    let at-ask-slot = c .before .before .before .before .before .before .before .before .before .before .before .before .before .before .before in
+    let s = c .before .before .before .before .before .before .before .before .before .before .before .before .before .before .before .before .before .before in
     let a = s .args in
     let t = at-block-at .block-at .result .now in
-    let counted = listed-count (giving s) (c .before .before .before .before .before .before .before .before .before .before .before .before .before .slot-places .ensures .found) in
+    let counted = listed-count (giving s) (c .before .before .before .before .before .before .before .before .before .before .before .before .slot-places .ensures .found) in
     delete-started (a .setting) (a .image .now) (a .v) (s .pre .0) (a .slot .0) (at-ask-slot .ask-slot .result)
-    (at-ask-slot .ask-slot .ensures) (c .before .before .before .before .before .before .before .before .before .before .before .before .before .before .enum-told .given .1) t _ (giving s)
+    (at-ask-slot .ask-slot .ensures) (c .before .before .before .before .before .before .before .before .before .before .before .before .before .enum-told .given .1) t _ (giving s)
     (at-block-at .block-at .ensures .0) refl (rw (at-block-at .block-at .ensures .0) refl)
-    (omega (arith, counted, c .before .before .before .before .before .before .before .before .before .before .if1 .left))
+    (omega (arith, counted, c .before .before .before .before .before .before .before .before .before .if1 .left))
     (at-entry-count .entry-count .result) (at-slot-row .slot-row .result .0) (c .pair-plan .result)
     _ (at-entry-count .entry-count .ensures) (at-slot-row .slot-row .ensures .0)
-    (c .pair-plan .ensures) (c .before .before .before .put-without-row .ensures)
+    (rw (c .before .before .before .before .before .target .ensures) at (c .pair-plan .ensures)) (c .before .before .before .put-without-row .ensures)
 
 pub delete-by-spec : {M : Type 1} → statement M
 delete-by-spec =
@@ -126,8 +123,7 @@ delete-by-spec =
     (λ c κs. where-blocks-are (c .before .before .before .before .before .before .before .before .before) .table-inside)
     (λ c κs. search needs)
     slot-row-requires
-    cast-at0
-    cast-at1
+    target-requires
     put-without-row-requires
     (λ c κs. search needs)
     returns-2

@@ -15,6 +15,7 @@ use Rattle.blocks.proofs.Naming.{whole-name}
 use Rattle.views.specs.Inner.Located.{Located}
 use Rattle.views.proofs.Opening.{located, has-entries}
 use Rattle.table_commands.proofs.RenameJob.{rename-by-row}
+use Rattle.drafts.proofs.Locating.{tables-fit}
 use Rattle.drafts.proofs.Drafting.{drafts-refused}
 use Rattle.drafts.proofs.Asking.{rename-refused, rename-refused-9, rename-refused-10, rename-started, row-below}
 use Rattle.table_commands.proofs.renaming.rename_by.Statement.{statement}
@@ -94,26 +95,19 @@ returns-2 c =
     (failed (rw (at-slot-row .slot-row .ensures .0, whole) at (at-name-free .name-free .ensures))
     (at-if2 .if2 .taken)))
 
-cast-at0 : tie.Need-cast-at0
-cast-at0 c =
-    let s = c .before .before .before .before .before .before .before .before .before .before .before .before .before .before in
-    let l = where-blocks-are s in omega (arith, l .spt0-inside, l .short)
-
-cast-at1 : tie.Need-cast-at1
-cast-at1 c =
-    let s = c .before .before .before .before .before .before .before .before .before .before .before .before .before .before .before in
-    let l = where-blocks-are s in omega (arith, l .spt1-inside, l .short)
+target-requires : tie.Need-target-requires
+target-requires c κs = tables-fit (where-blocks-are (c .before .before .before .before .before .before .before .before .before .before .before .before .before))
 
 rename-job-requires : tie.Need-rename-job-requires
 rename-job-requires c κs =
-    let at-slot-row = c .before .before .before .before .before in
-    let at-entry-count = c .before .before .before .before .before .before in
-    let at-block-at = c .before .before .before .before .before .before .before in
-    let at-if1 = c .before .before .before .before .before .before .before .before in
-    let at-name-allowed = c .before .before .before .before .before .before .before .before .before in
-    let at-enum-told = c .before .before .before .before .before .before .before .before .before .before in
-    let at-ask-slot = c .before .before .before .before .before .before .before .before .before .before .before .before in
-    let s = c .before .before .before .before .before .before .before .before .before .before .before .before .before .before .before .before in
+    let at-slot-row = c .before .before .before .before in
+    let at-entry-count = c .before .before .before .before .before in
+    let at-block-at = c .before .before .before .before .before .before in
+    let at-if1 = c .before .before .before .before .before .before .before in
+    let at-name-allowed = c .before .before .before .before .before .before .before .before in
+    let at-enum-told = c .before .before .before .before .before .before .before .before .before in
+    let at-ask-slot = c .before .before .before .before .before .before .before .before .before .before .before in
+    let s = c .before .before .before .before .before .before .before .before .before .before .before .before .before .before .before in
     let l = where-blocks-are s in
     let a = s .args in
     let img = a .image .now in
@@ -143,16 +137,16 @@ returns-3 c =
 
 returns-4 : tie.Need-returns-4
 returns-4 c =
-    let at-if2 = c .before .before .before .before .before .before in
-    let at-name-free = c .before .before .before .before .before .before .before in
-    let at-slot-row = c .before .before .before .before .before .before .before .before in
-    let at-entry-count = c .before .before .before .before .before .before .before .before .before in
-    let at-block-at = c .before .before .before .before .before .before .before .before .before .before in
-    let at-if1 = c .before .before .before .before .before .before .before .before .before .before .before in
-    let at-name-allowed = c .before .before .before .before .before .before .before .before .before .before .before .before in
-    let at-enum-told = c .before .before .before .before .before .before .before .before .before .before .before .before .before in
-    let at-ask-slot = c .before .before .before .before .before .before .before .before .before .before .before .before .before .before .before in
-    let s = c .before .before .before .before .before .before .before .before .before .before .before .before .before .before .before .before .before .before .before in
+    let at-if2 = c .before .before .before .before .before in
+    let at-name-free = c .before .before .before .before .before .before in
+    let at-slot-row = c .before .before .before .before .before .before .before in
+    let at-entry-count = c .before .before .before .before .before .before .before .before in
+    let at-block-at = c .before .before .before .before .before .before .before .before .before in
+    let at-if1 = c .before .before .before .before .before .before .before .before .before .before in
+    let at-name-allowed = c .before .before .before .before .before .before .before .before .before .before .before in
+    let at-enum-told = c .before .before .before .before .before .before .before .before .before .before .before .before in
+    let at-ask-slot = c .before .before .before .before .before .before .before .before .before .before .before .before .before .before in
+    let s = c .before .before .before .before .before .before .before .before .before .before .before .before .before .before .before .before .before .before in
     let a = s .args in
     let img = a .image .now in
     let st = a .setting in
@@ -171,8 +165,11 @@ returns-4 c =
     (passed (rw (at-slot-row .slot-row .ensures .0, whole) at (at-name-free .name-free .ensures))
     (at-if2 .if2 .left))
     _ (c .before .before .rename-job .result)
-    (rw (rename-by-row (length img) (a .setting .granule) (a .v .spt0) (a .v .spt1) (a .slot .0) row n t (a .name .now)
-    (at-entry-count .entry-count .ensures) (at-slot-row .slot-row .ensures .0) row-counted whole)
+    (rw (
+      c .before .before .before .before .target .ensures,
+      rename-by-row (length img) (a .setting .granule) (a .v .spt0) (a .v .spt1) (a .slot .0) row n t (a .name .now)
+          (at-entry-count .entry-count .ensures) (at-slot-row .slot-row .ensures .0) row-counted whole,
+    )
     at (c .before .before .rename-job .ensures))
 
 pub rename-by-spec : {M : Type 1} → statement M
@@ -189,8 +186,7 @@ rename-by-spec =
     slot-row-requires
     name-free-requires
     returns-2
-    cast-at0
-    cast-at1
+    target-requires
     rename-job-requires
     returns-3
     (λ c. search needs)

@@ -2,13 +2,13 @@
 use mathlib.Core.Path.{_≡_}
 use native.Mathlib.Numerals.{add-one}
 use native.Mathlib.Omega.{arith}
-use Rattle.tokens.specs.Words.{before}
-use Rattle.tokens.proofs.WordsOfLine.{before-ends, before-goes, before-over}
+use Rattle.names.specs.Before.{before}
+use Rattle.names.proofs.Names.{before-ends, before-goes, before-over}
 use Prim.Native.Nat.{_+_, _≤_, _-_}
 use lib.ListN.{length, drop}
 use borrow.Author.Needs.{needs}
-use Rattle.tokens.proofs.words.length_before.Statement.{statement}
-use Rattle.tokens.proofs.words.length_before.Tie as tie
+use Rattle.names.proofs.length_before.Statement.{statement}
+use Rattle.names.proofs.length_before.Tie as tie
 
 abbrev Inv-loop : tie.InvT-loop
 Inv-loop text stop i₀ i = (length (before stop text) ≡ i + length (before stop (drop i text))) × (i ≤ length text)
