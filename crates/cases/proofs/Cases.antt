@@ -9,7 +9,8 @@ use Rattle.rules.specs.Steps.{steps}
 use Rattle.quarry.specs.Rows.{Row, holds}
 use Rattle.cases.specs.Cases.{starred, unstarred}
 use Rattle.rules.specs.declared.Step.{Step}
-use Rattle.cases_01.proofs.Cases.{case-1-computed, case-2-computed, case-3-computed, case-4-computed, case-5-computed, case-6-computed, case-7-computed, case-7-full-computed, case-9-computed, case-8-computed, case-8-shown-computed, case-8-inside-computed, case-10-computed}
+use Rattle.cases_01.proofs.Cases.{case-1-computed, case-2-computed, case-3-computed, case-4-computed, case-5-computed}
+use Rattle.cases_01_from_6.proofs.Cases.{case-6-computed, case-7-computed, case-7-full-computed, case-9-computed, case-8-computed, case-8-shown-computed, case-8-inside-computed, case-10-computed}
 use Rattle.cases_02.proofs.Cases.{case-reused-computed, case-held-computed, case-empty-computed, case-last-byte-computed, case-0x28-computed, case-one-place-computed, case-four-places-computed, case-two-shapes-computed}
 use Rattle.rules.proofs.Steps.Programming.{fast-steps, fast-is-steps}
 
