@@ -15,7 +15,8 @@ use Rattle.rules.proofs.Lists.Combinators.{all-weaker}
 use Rattle.walks.specs.Entries.{entry-at}
 use Rattle.walks.proofs.Entries.{entries-turn}
 use Rattle.entry_rules.specs.Inner.Rules.{entries-before}
-use Rattle.entry_rules.specs.Inner.Ascending.{ends-before, ascend}
+use Rattle.entry_rules.specs.Inner.Ascending.{ascend}
+use Rattle.entry_tests.specs.Inner.Ranges.{ends-before}
 use Rattle.entry_rules.proofs.FirstBroken.{clash-goes}
 
 -- what begins after e ends begins after d ends, where e itself does

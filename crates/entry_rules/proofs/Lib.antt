@@ -1,3 +1,2 @@
 pub mod FirstBroken
-mod Padding
 mod Ascending

@@ -1,3 +1,2 @@
 pub mod Ascending
-pub mod Padding
 pub mod Rules

@@ -1,9 +1,9 @@
 // What a rule asks of each entry, or of each two: the first of a table's n entries that does not keep it.
 use super::PairRule;
 use super::Rule;
-use super::named;
-use super::naming;
-use super::ranges;
+use entry_tests::named;
+use entry_tests::naming;
+use entry_tests::ranges;
 use rules::EntryNo;
 ghost use mathlib.Core.Path.{_≡_};
 ghost use Prim.Native.Nat.{_+_, _≤_, _<_};

@@ -1,8 +1,7 @@
-// What the rules of a standing table ask of each entry, or of each two, and the first entry that does not keep one.
+// The first entry that does not keep a rule of a standing table, by itself or with an earlier one.
 pub mod each; // the first of n entries that does not keep a rule
-pub mod naming; // rules 3 and 4
-pub mod ranges; // rules 5 to 7
-pub mod named; // what rules 9 to 11 ask of an entry with one of the six names
+pub mod naming; // rule 4, for most tables by whole fields
+pub mod ranges; // rule 7, for most tables by neighbours
 
 // What a rule asks of one entry: 3, 5 and 6 of the eleven, the last with the image length; of an entry with one of the
 // six names 9, 10 with the two addresses told and 11 with the granule; and that the name is padded with zeros, by which

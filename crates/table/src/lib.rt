@@ -1,5 +1,6 @@
 // One copy of the sub-partition table: whether it stands by the eleven rules, and the first of them that it breaks. What
-// rules 3 to 7 and 9 to 11 ask of one entry, or of two, is in `entry_rules`.
+// rules 3 to 7 and 9 to 11 ask of one entry, or of two, is in `entry_tests`; the first entry that does not keep it is
+// found in `entry_rules`.
 use entry_rules::Rule;
 use entry_rules::each;
 use entry_rules::naming;

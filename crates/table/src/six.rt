@@ -1,6 +1,6 @@
 // Rules 8 to 11: the six entries of fixed names. Each is looked up once, and judged by its entry number.
 use super::SixEntries;
-use entry_rules::named;
+use entry_tests::named;
 use rules::Setting;
 ghost use mathlib.Core.Path.{_≡_};
 ghost use mathlib.Core.Bool.{_&&_};

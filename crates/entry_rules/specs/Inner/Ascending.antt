@@ -1,14 +1,9 @@
 -- Ranges that ascend: a test of each entry with the next, by which no two overlap. Assumes nothing.
 use mathlib.Core.Bool.{Bool, true, _&&_}
 use mathlib.Core.List.{List}
-use Prim.Native.Nat.{ℕ, zero, suc, _+_}
-use lib.Dec.{leb}
-use Rattle.rules.specs.Table.{Entry}
+use Prim.Native.Nat.{ℕ, zero, suc}
 use Rattle.walks.specs.Entries.{entry-at}
-
--- the range of d ends where that of e begins, or before
-unfoldable pub ends-before : Entry → Entry → Bool
-ends-before d e = leb (d .start + d .size) (e .start)
+use Rattle.entry_tests.specs.Inner.Ranges.{ends-before}
 
 -- each of the first k ranges of a table ends before the next
 unfoldable pub ascend : List ℕ → ℕ → Bool

@@ -7,7 +7,7 @@ use Rattle.rules.specs.Numbers.{setting}
 use Rattle.rules.specs.Table.{Entry, name-right, names-differ, range-aligned, range-inside, ranges-apart}
 use Rattle.rules.specs.Table.{boot-info-right, table-as-told, block-on-granules}
 use Rattle.walks.specs.Entries.{entry-at}
-use Rattle.entry_rules.specs.Inner.Padding.{padded, fields-differ}
+use Rattle.entry_tests.specs.Inner.Padding.{padded, fields-differ}
 use Rattle.entry_rules.specs.declared.Rule.{Rule}
 use Rattle.entry_rules.specs.declared.Rule.the-variants.{NameRight, NamePadded, RangeAligned, RangeInside, BootInfoRight, TableAsTold, BlockOnGranules}
 use Rattle.entry_rules.specs.declared.PairRule.{PairRule}

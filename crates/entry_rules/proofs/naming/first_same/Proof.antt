@@ -3,8 +3,8 @@ use native.Mathlib.Omega.{arith}
 use borrow.Author.Needs.{needs}
 use Rattle.rules.specs.Table.{rows}
 use Rattle.entry_rules.specs.Inner.Rules.{keeps, both-keep, entries-before}
-use Rattle.entry_rules.specs.Inner.Padding.{padded}
-use Rattle.entry_rules.proofs.Padding.{same-by-fields}
+use Rattle.entry_tests.specs.Inner.Padding.{padded}
+use Rattle.entry_tests.proofs.Padding.{same-by-fields}
 use Rattle.entry_rules.proofs.FirstBroken.{all-by-number, kept}
 use Rattle.entry_rules.proofs.naming.first_same.Statement.{statement}
 use Rattle.entry_rules.proofs.naming.first_same.Tie as tie
