@@ -21,7 +21,7 @@ use Rattle.rules.specs.declared.View.{View}
 use Rattle.rules.proofs.Lists.Tests.{unless-given}
 use Rattle.rules.proofs.Table.Standing.{length-entries-from}
 use Rattle.rules.proofs.Table.Renaming.{slot-row-found}
-use Rattle.pointer_blocks.proofs.Walking.{in-order}
+use Rattle.place_lists.proofs.Walking.{in-order}
 use Rattle.drafts.specs.JobFor.{enable-job, disable-job, rename-job, job-for, job-by}
 use Rattle.drafts.specs.Inner.Drafted.{Drafts, Means}
 use Rattle.drafts.specs.Inner.Asked.{outcome, copies-equal, slot-asked}

@@ -38,7 +38,7 @@ use Rattle.jobs.specs.Jobs.{place-room}
 use Rattle.blocks.specs.Made.{pair-rewritten}
 use Rattle.blocks.proofs.Noting.{Below}
 use Rattle.blocks.proofs.JobSteps.{Sound, Fits, rewrites-sound, no-steps-sound, pair-sound, places-sound}
-use Rattle.pointer_blocks.proofs.Walking.{giving-few, giving-below, length-places}
+use Rattle.place_lists.proofs.Walking.{giving-few, giving-below, length-places}
 use Rattle.drafts.specs.JobFor.{reorder-job, in-places-job, enable-job, disable-job, rename-job, create-job, delete-job, repaired, repair-job, job-for}
 use Rattle.drafts.proofs.EqualCopies.{either-within, repair-by-copies}
 

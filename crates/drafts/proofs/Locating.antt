@@ -21,7 +21,7 @@ use Rattle.slots.specs.declared.Rows.{Rows}
 use Rattle.slots.proofs.RowsOf.{count-of-rows}
 use Rattle.places.specs.Inner.PlacesOf.{places-of}
 use Rattle.places.specs.declared.Places.{Places}
-use Rattle.pointer_blocks.specs.Inner.Walked.{Readable}
+use Rattle.place_lists.specs.Inner.Walked.{Readable}
 use Rattle.blocks.specs.Made.{place-list}
 use Rattle.blocks.specs.declared.PlaceList.{PlaceList}
 

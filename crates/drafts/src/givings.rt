@@ -1,7 +1,6 @@
 // The places that give a slot: disable clears them, and delete refuses a slot that has one.
 use super::SlotPlaces;
 use blocks::tables;
-use pointer_blocks::pointers;
 use rules::SlotNo;
 use rules::View;
 ghost use Prim.Native.Nat.{_<_};
@@ -31,6 +30,6 @@ pub fn slot_places(image: &[u8], v: View, slot: SlotNo) -> SlotPlaces
         rows: rows,
         places: places,
         start: start,
-        found: pointers::places_giving(t, rows, p, places, slot, start),
+        found: place_lists::places_giving(t, rows, p, places, slot, start),
     }
 }

@@ -1,4 +1,2 @@
 pub mod Putting
 pub mod OrderPacked
-pub mod Noting
-pub mod Walking

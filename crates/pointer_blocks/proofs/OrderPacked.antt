@@ -14,7 +14,7 @@ use Rattle.rules.specs.Commands.{pointers-of}
 use Rattle.rules.proofs.Order.OnceEach.{Once, once-order, once-first, once-length, order-length}
 use Rattle.slots.proofs.RowsOf.{few-slots-counted}
 use Rattle.boot_order.proofs.BootOrder.{order-fits}
-use Rattle.pointer_blocks.specs.Inner.Walked.{SlotNumbers}
+use Rattle.pointer_blocks.specs.Inner.Packed.{SlotNumbers}
 
 -- ---- one pointer more
 

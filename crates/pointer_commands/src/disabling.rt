@@ -3,7 +3,6 @@ use blocks::made;
 use blocks::tables;
 use drafts::Draft;
 use drafts::Outcome;
-use pointer_blocks::packing;
 use rules::Setting;
 use rules::SlotNo;
 use rules::View;
@@ -42,7 +41,7 @@ pub fn disable_by(image: &[u8], setting: Setting, v: View, slot: SlotNo, room: &
             let places = given.places;
             // A start half cleared that names another slot must not be left by a cut.
             if tables::half_cleared_names(t, rows.count, given.start) {
-                packing::order_without(t, rows, p, places, slot, room);
+                pointer_blocks::order_without(t, rows, p, places, slot, room);
                 return Draft::Rewritten(made::pair_plan(to));
             }
             drafts::into_places(to, places.offset as u32, found, 0, room)

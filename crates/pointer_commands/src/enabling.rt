@@ -5,8 +5,6 @@ use blocks::tables;
 use drafts::Draft;
 use drafts::Outcome;
 use places::Places;
-use pointer_blocks::packing;
-use pointer_blocks::pointers;
 use rules::Setting;
 use rules::SlotNo;
 use rules::View;
@@ -21,7 +19,7 @@ ghost use Rattle.rules.specs.Answers.{given};
 ghost use Rattle.rules.specs.Table.{starts};
 ghost use Rattle.rules.specs.Copies.{view};
 ghost use Rattle.rules.specs.Commands.{enough-places, enable};
-ghost use Rattle.pointer_blocks.specs.Inner.Walked.{Readable};
+ghost use Rattle.place_lists.specs.Inner.Walked.{Readable};
 ghost use Rattle.drafts.specs.JobFor.{enable-job, job-by};
 ghost use Rattle.drafts.specs.Inner.Drafted.{Drafts, Means};
 
@@ -46,7 +44,7 @@ pub fn enable_by(image: &[u8], setting: Setting, v: View, slot: SlotNo, room: &m
             let pointers_at = v.pointers;
             let p = fields::block_at(image, pointers_at);
             let places = place_walks::places_of(p);
-            if !packing::enough_places(t, rows, p, places, slot) {
+            if !pointer_blocks::enough_places(t, rows, p, places, slot) {
                 return Draft::Refused(NO_PLACE_LEFT);
             }
             let to = made::target(image.len(), setting.granule, v.cpb0, v.cpb1);
@@ -76,13 +74,13 @@ fn enable_job(
         (enable-job (to .len) (to .granule) (to .at0) (to .at1) (starts (now (t .entry))) (now (p .entry)) (slot .0)))
         ⌝ }
 {
-    if pointers::comes_first(t, rows, p, places, slot) {
+    if place_lists::comes_first(t, rows, p, places, slot) {
         return Draft::NoSteps(made::no_plan(to));
     }
     if places.free.0 < places.count {
-        let one = pointers::one_place(places.free);
+        let one = place_lists::one_place(places.free);
         return drafts::into_places(to, places.offset as u32, one, start, room);
     }
-    packing::order_with_first(t, rows, p, places, slot, start, room);
+    pointer_blocks::order_with_first(t, rows, p, places, slot, start, room);
     Draft::Rewritten(made::pair_plan(to))
 }

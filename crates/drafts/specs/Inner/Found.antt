@@ -5,7 +5,7 @@ use Prim.Native.Nat.{ℕ}
 use lib.ListN.{getD}
 use Rattle.rules.specs.Table.{starts}
 use Rattle.blocks.specs.Made.{place-list}
-use Rattle.pointer_blocks.specs.Inner.Walked.{Readable, places-giving}
+use Rattle.place_lists.specs.Inner.Walked.{Readable, places-giving}
 use Rattle.drafts.specs.declared.SlotPlaces.{SlotPlaces}
 
 -- by a table and a pointer block, of a slot

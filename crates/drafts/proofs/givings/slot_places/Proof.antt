@@ -1,7 +1,7 @@
 -- `slot_places` finds the places that give a slot. Assumes nothing.
 use mathlib.Core.Path.{refl}
 use Rattle.rules.specs.Table.{entry-count}
-use Rattle.pointer_blocks.specs.Inner.Walked.{Readable}
+use Rattle.place_lists.specs.Inner.Walked.{Readable}
 use Rattle.views.proofs.Opening.{has-entries, has-pointers}
 use Rattle.drafts.proofs.Locating.{readable}
 use Rattle.drafts.proofs.givings.slot_places.Statement.{statement}

@@ -13,7 +13,7 @@ use Rattle.rules.specs.Commands.{disable, half-cleared-names}
 use Rattle.rules.proofs.Pointers.PointerHeader.{places-fit}
 use Rattle.slots.proofs.RowsOf.{counted-rows, count-is}
 use Rattle.places.proofs.PlacesOf.{offset-is}
-use Rattle.pointer_blocks.specs.Inner.Walked.{places-giving}
+use Rattle.place_lists.specs.Inner.Walked.{places-giving}
 use Rattle.views.specs.Inner.Located.{Located}
 use Rattle.views.proofs.Opening.{located, has-entries}
 use Rattle.drafts.specs.JobFor.{disable-job, job-by}

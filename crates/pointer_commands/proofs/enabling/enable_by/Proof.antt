@@ -10,7 +10,7 @@ use Rattle.rules.specs.Table.{entry-count, entries, slots}
 use Rattle.rules.specs.Commands.{enable}
 use Rattle.views.specs.Inner.Located.{Located}
 use Rattle.views.proofs.Opening.{located, has-entries, has-pointers}
-use Rattle.pointer_blocks.specs.Inner.Walked.{Readable}
+use Rattle.place_lists.specs.Inner.Walked.{Readable}
 use Rattle.drafts.proofs.Locating.{has-rows, readable, pointers-fit}
 use Rattle.drafts.proofs.Drafting.{drafts-refused}
 use Rattle.drafts.proofs.Asking.{enable-refused, enable-refused-14, enable-refused-15, enable-started, slot-counted, begins-inside}

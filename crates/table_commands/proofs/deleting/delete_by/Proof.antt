@@ -7,7 +7,7 @@ use Rattle.rules.specs.Answers.{numbered}
 use Rattle.rules.specs.Bytes.{block}
 use Rattle.rules.specs.Commands.{delete}
 use Rattle.walks.specs.Entries.{most-entries}
-use Rattle.pointer_blocks.specs.Inner.Walked.{places-giving}
+use Rattle.place_lists.specs.Inner.Walked.{places-giving}
 use Rattle.views.specs.Inner.Located.{Located}
 use Rattle.views.proofs.Opening.{located, has-entries}
 use Rattle.drafts.proofs.Locating.{listed-count, tables-fit}
