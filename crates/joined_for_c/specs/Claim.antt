@@ -8,7 +8,7 @@ use Rattle.rules.specs.declared.Setting.{Setting}
 use Rattle.rules.specs.Table.{entries, slots}
 use Rattle.rules.specs.Readers.{order-list, slot-count, slot-there, info, slot-info, name-in, slot-name}
 use Rattle.rules.specs.Book.{Reading}
-use Rattle.linked.specs.Answered.{Written}
+use Rattle.reads_for_c.specs.Answered.{Written}
 use Rattle.joined.specs.Claim.{Demand3-as-told}
 use Rattle.joined_for_c.specs.Items.{CarriedForC, by-value}
 

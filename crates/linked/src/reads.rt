@@ -1,15 +1,9 @@
 // A flash read: its boot order, its slots, what is known of one.
-use reading::Counted;
-use reading::Known;
-use reading::Listed;
-use rules::Setting;
-use rules::SlotNo;
-ghost use mathlib.Core.Path.{_≡_};
 ghost use lib.ListN.{length};
 ghost use Rattle.rules.specs.Numbers.{setting};
 ghost use Rattle.rules.specs.Readers.{order-list, slot-count, slot-info};
-ghost use Rattle.codes.specs.Answered.{number, kept};
-ghost use Rattle.linked.specs.Answered.{Written, name-answer};
+ghost use Rattle.reads_for_c.specs.Answered.{Written, name-answer};
+ghost use Rattle.reads_for_c.specs.Told.{CountTold, SlotTold};
 
 // The boot order's slot numbers into the front of the row, and how many there are.
 #[no_mangle]
@@ -26,19 +20,7 @@ pub extern "C" fn delunkpawi_order(
         (now (row .entry)) (now (row .exit)) (now (count .entry)) (now (count .exit))
         ⌝ }
 {
-    let setting = Setting {
-        granule: granule,
-        spt0: spt0,
-        spt1: spt1,
-    };
-    let listed = reading::order_list(image, setting, row);
-    match listed {
-        Listed::Refused(why) => why.number,
-        Listed::Count(n) => {
-            *count = n;
-            0
-        }
-    }
+    reads_for_c::reads::order(image, granule, spt0, spt1, row, count)
 }
 
 // How many application slots there are.
@@ -51,24 +33,10 @@ pub extern "C" fn delunkpawi_slot_count(
     count: &mut usize,
 ) -> u8
     ensures { λ r. ⌜
-        (r ≡ number (slot-count (setting granule spt0 spt1) (now (image .entry))))
-        × (now (count .exit)
-        ≡ kept (λ n. n) (slot-count (setting granule spt0 spt1) (now (image .entry))) (now (count .entry)))
+        CountTold (slot-count (setting granule spt0 spt1) (now (image .entry))) r (now (count .entry)) (now (count .exit))
         ⌝ }
 {
-    let setting = Setting {
-        granule: granule,
-        spt0: spt0,
-        spt1: spt1,
-    };
-    let counted = reading::slot_count(image, setting);
-    match counted {
-        Counted::Refused(why) => why.number,
-        Counted::Slots(n) => {
-            *count = n;
-            0
-        }
-    }
+    reads_for_c::reads::slot_count(image, granule, spt0, spt1, count)
 }
 
 // The entry number, start, length and flags of a slot.
@@ -84,40 +52,15 @@ pub extern "C" fn delunkpawi_slot_facts(
     size: &mut u64,
     flags: &mut u64,
 ) -> u8
-    ensures { λ r. ⌜ r ≡ number (slot-info (setting granule spt0 spt1) (now (image .entry)) slot) ⌝ }
-    ensures { λ _. ⌜
-        now (entry .exit)
-        ≡ kept (λ f. f .entry .0) (slot-info (setting granule spt0 spt1) (now (image .entry)) slot) (now (entry .entry))
-        ⌝ }
-    ensures { λ _. ⌜
-        now (start .exit)
-        ≡ kept (λ f. f .start) (slot-info (setting granule spt0 spt1) (now (image .entry)) slot) (now (start .entry))
-        ⌝ }
-    ensures { λ _. ⌜
-        now (size .exit)
-        ≡ kept (λ f. f .size) (slot-info (setting granule spt0 spt1) (now (image .entry)) slot) (now (size .entry))
-        ⌝ }
-    ensures { λ _. ⌜
-        now (flags .exit)
-        ≡ kept (λ f. f .flags) (slot-info (setting granule spt0 spt1) (now (image .entry)) slot) (now (flags .entry))
+    ensures { λ r. ⌜
+        SlotTold (slot-info (setting granule spt0 spt1) (now (image .entry)) slot) r
+        (now (entry .entry)) (now (entry .exit))
+        (now (start .entry)) (now (start .exit))
+        (now (size .entry)) (now (size .exit))
+        (now (flags .entry)) (now (flags .exit))
         ⌝ }
 {
-    let setting = Setting {
-        granule: granule,
-        spt0: spt0,
-        spt1: spt1,
-    };
-    let known = reading::slot_info(image, setting, SlotNo(slot));
-    match known {
-        Known::Refused(why) => why.number,
-        Known::Is(f) => {
-            *entry = f.entry.0;
-            *start = f.start;
-            *size = f.size;
-            *flags = f.flags;
-            0
-        }
-    }
+    reads_for_c::reads::slot_facts(image, granule, spt0, spt1, slot, entry, start, size, flags)
 }
 
 // The name of a slot up to its zero into the front of the lent bytes, and its length; 91 where they are too few.
@@ -136,20 +79,5 @@ pub extern "C" fn delunkpawi_slot_name(
         (now (name .entry)) (now (name .exit)) (now (count .entry)) (now (count .exit))
         ⌝ }
 {
-    let setting = Setting {
-        granule: granule,
-        spt0: spt0,
-        spt1: spt1,
-    };
-    let found = reading::slot_name(image, setting, SlotNo(slot));
-    let known = reading::slot_info(image, setting, SlotNo(slot));
-    let fitting = codes::names::fitting(known, found.len(), name.len());
-    match fitting {
-        Known::Refused(why) => why.number,
-        Known::Is(_) => {
-            text::put_bytes(name, 0, found);
-            *count = found.len();
-            0
-        }
-    }
+    reads_for_c::reads::slot_name(image, granule, spt0, spt1, slot, name, count)
 }
