@@ -52,7 +52,7 @@ pub fn name_allowed(name: &[u8]) -> bool
     (0 < name.len())
         & (name.len() <= 15)
         & (names::name_length(name) == name.len())
-        & !slots::is_fixed_name(name)
+        & !names::is_fixed_name(name)
 }
 
 // No entry other than this one has the name.

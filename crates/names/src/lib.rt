@@ -4,9 +4,11 @@ ghost use mathlib.Core.Path.{_≡_};
 ghost use Prim.Native.Nat.{_≤_};
 ghost use lib.Dec.{eqb};
 ghost use lib.ListN.{length, getD};
-ghost use Rattle.rules.specs.Lists.{same};
+ghost use Rattle.rules.specs.Lists.{same, member};
 ghost use Rattle.rules.specs.Bytes.{up-to-zero};
+ghost use Rattle.rules.specs.Table.{is-fixed-name};
 ghost use Rattle.names.specs.Before.{before};
+ghost use Rattle.names.specs.Inner.Initials.{initials};
 
 // The six names that a table must have; no slot has one of them.
 pub const BOOT_INFO: [u8; 9] = *b"BOOT_INFO";
@@ -74,4 +76,32 @@ fn byte_or_zero(s: &[u8], i: usize) -> u8
     ensures { λ r. ⌜ r ≡ getD (now (s .entry)) i 0 ⌝ }
 {
     if i < s.len() { s[i] } else { 0 }
+}
+
+// ---- the six
+
+// The name is one of the six. Most names differ in the first byte from all of them.
+pub fn is_fixed_name(name: &[u8]) -> bool
+    ensures { λ r. ⌜ r ≡ is-fixed-name (up-to-zero (now (name .entry))) ⌝ }
+{
+    if !begins_fixed(name) {
+        return false;
+    }
+    same_name(name, &BOOT_INFO)
+        | same_name(name, &FACTORY_IMAGE)
+        | same_name(name, &SPT0)
+        | same_name(name, &SPT1)
+        | same_name(name, &CPB0)
+        | same_name(name, &CPB1)
+}
+
+// The first byte is that of one of the six.
+fn begins_fixed(name: &[u8]) -> bool
+    ensures { λ r. ⌜ r ≡ member (getD (now (name .entry)) 0 0) initials ⌝ }
+{
+    if name.len() == 0 {
+        return false;
+    }
+    let first = name[0];
+    (first == b'B') | (first == b'F') | (first == b'S') | (first == b'C')
 }

@@ -1,2 +1,1 @@
 pub mod RowsOf
-pub mod Initials

@@ -4,15 +4,12 @@ use rules::SlotNo;
 ghost use mathlib.Core.Path.{_≡_};
 ghost use mathlib.Core.Bool.{cond};
 ghost use Prim.Native.Nat.{_+_, _≤_, _<_};
-ghost use lib.ListN.{length, getD, drop};
-ghost use Rattle.rules.specs.Lists.{member};
-ghost use Rattle.rules.specs.Bytes.{up-to-zero};
-ghost use Rattle.rules.specs.Table.{entry-count, rows, entries, is-fixed-name, is-slot, slots};
+ghost use lib.ListN.{length, drop};
+ghost use Rattle.rules.specs.Table.{entry-count, rows, entries, is-slot, slots};
 ghost use Rattle.rules.specs.Readers.{slot-row};
 ghost use Rattle.walks.specs.Find.{find};
 ghost use Rattle.walks.specs.Last.{last-from};
 ghost use Rattle.walks.specs.Entries.{HasEntries, HasEntry, entry-at, slot-from};
-ghost use Rattle.slots.specs.Inner.Initials.{initials};
 ghost use Rattle.slots.specs.Inner.RowsOf.{slots-before, rows-of, HasRows};
 
 // The rows of a table: how many entries count; the entry from which on all of them are slots; how many slots come before
@@ -25,32 +22,6 @@ pub struct Rows {
 
 // ---- one entry
 
-// The name is one of the six. Most names differ in the first byte from all of them.
-pub fn is_fixed_name(name: &[u8]) -> bool
-    ensures { λ r. ⌜ r ≡ is-fixed-name (up-to-zero (now (name .entry))) ⌝ }
-{
-    if !begins_fixed(name) {
-        return false;
-    }
-    names::same_name(name, &names::BOOT_INFO)
-        | names::same_name(name, &names::FACTORY_IMAGE)
-        | names::same_name(name, &names::SPT0)
-        | names::same_name(name, &names::SPT1)
-        | names::same_name(name, &names::CPB0)
-        | names::same_name(name, &names::CPB1)
-}
-
-// The first byte is that of one of the six.
-fn begins_fixed(name: &[u8]) -> bool
-    ensures { λ r. ⌜ r ≡ member (getD (now (name .entry)) 0 0) initials ⌝ }
-{
-    if name.len() == 0 {
-        return false;
-    }
-    let first = name[0];
-    (first == b'B') | (first == b'F') | (first == b'S') | (first == b'C')
-}
-
 // The entry is an application slot: flag bits 0 and 1 clear and a name other than the six.
 pub fn is_slot(table: &[u8], e: EntryNo) -> bool
     requires { ⌜ HasEntry (now table) (e .0) ⌝ }
@@ -59,7 +30,7 @@ pub fn is_slot(table: &[u8], e: EntryNo) -> bool
     if entries::entry_flags(table, e) % 4 != 0 {
         return false;
     }
-    !is_fixed_name(entries::entry_name(table, e))
+    !names::is_fixed_name(entries::entry_name(table, e))
 }
 
 // ---- all entries

@@ -1,4 +1,4 @@
--- `slots::is_fixed_name` meets its contract: the first byte decides where it is none of the six names', else
+-- `names::is_fixed_name` meets its contract: the first byte decides where it is none of the six names', else
 -- six comparisons are the definition's test of six names. Assumes nothing.
 use mathlib.Core.Path.{sym}
 use borrow.Author.Needs.{needs}
@@ -6,9 +6,9 @@ use Rattle.rules.specs.Bytes.{up-to-zero}
 use Rattle.rules.specs.Table.{is-fixed-name, six-names}
 use Rattle.rules.specs.Table.{boot-info, factory-image, spt0-name, spt1-name, cpb0-name, cpb1-name}
 use Rattle.walks.proofs.Joined.{any-six, failed}
-use Rattle.slots.proofs.Initials.{begins-otherwise}
-use Rattle.slots.proofs.is_fixed_name.Statement.{statement}
-use Rattle.slots.proofs.is_fixed_name.Tie as tie
+use Rattle.names.proofs.Initials.{begins-otherwise}
+use Rattle.names.proofs.is_fixed_name.Statement.{statement}
+use Rattle.names.proofs.is_fixed_name.Tie as tie
 
 returns : tie.Need-returns
 returns c =

@@ -10,7 +10,7 @@ use Rattle.rules.specs.Bytes.{up-to-zero}
 use Rattle.rules.specs.Table.{is-fixed-name, six-names}
 use Rattle.rules.specs.Table.{boot-info, factory-image, spt0-name, spt1-name, cpb0-name, cpb1-name}
 use Rattle.rules.proofs.Lists.Tests.{by-cases, or-false}
-use Rattle.slots.specs.Inner.Initials.{initials}
+use Rattle.names.specs.Inner.Initials.{initials}
 
 pub begins-otherwise : (s : List ℕ) → member (getD s 0 0) initials ≡ false → is-fixed-name (up-to-zero s) ≡ false
 unfolding member initials up-to-zero any same is-fixed-name six-names boot-info factory-image spt0-name spt1-name cpb0-name cpb1-name

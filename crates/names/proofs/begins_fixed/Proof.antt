@@ -1,12 +1,12 @@
--- `slots::begins_fixed` is the test of the first byte, 0 where there is none. Assumes nothing.
+-- `names::begins_fixed` is the test of the first byte, 0 where there is none. Assumes nothing.
 use native.Mathlib.Omega.{arith}
 use lib.ListN.{List·getD-eq-default}
 use Rattle.rules.specs.Lists.{member}
 use Rattle.walks.proofs.Joined.{or-assoc, or-with-false}
-use Rattle.slots.specs.Inner.Initials.{initials}
+use Rattle.names.specs.Inner.Initials.{initials}
 use borrow.Author.Needs.{needs}
-use Rattle.slots.proofs.begins_fixed.Statement.{statement}
-use Rattle.slots.proofs.begins_fixed.Tie as tie
+use Rattle.names.proofs.begins_fixed.Statement.{statement}
+use Rattle.names.proofs.begins_fixed.Tie as tie
 
 returns : tie.Need-returns
 unfolding member initials
