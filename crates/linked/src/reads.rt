@@ -1,6 +1,6 @@
 // A flash read: its boot order, its slots, what is known of one.
+use infos::Known;
 use reading::Counted;
-use reading::Known;
 use reading::Listed;
 use rules::Setting;
 use rules::SlotNo;

@@ -1,16 +1,16 @@
 // Reading a flash: the table read, the boot order, the slots. Nothing here stores into an image.
 mod order; // the boot order by two blocks, and refusal 13
-mod info; // one slot by a table, and refusal 7
 
+use infos::Known;
 use rules::Refusal;
 use rules::Setting;
-use rules::SlotInfo;
 use rules::SlotNo;
 use views::Viewed;
 ghost use mathlib.Core.Path.{_≡_};
 ghost use lib.ListN.{length};
 ghost use Rattle.rules.specs.Readers.{order-list, row-after, table-part, slot-count, slot-info, slot-name};
-ghost use Rattle.reading.specs.Answers.{listed, count-of, counted, known};
+ghost use Rattle.infos.specs.Answers.{known};
+ghost use Rattle.reading.specs.Answers.{listed, count-of, counted};
 
 // How many slot numbers the order list wrote, or a refusal.
 pub enum Listed {
@@ -21,12 +21,6 @@ pub enum Listed {
 // How many application slots there are, or a refusal.
 pub enum Counted {
     Slots(usize),
-    Refused(Refusal),
-}
-
-// What is known of a slot, or a refusal.
-pub enum Known {
-    Is(SlotInfo),
     Refused(Refusal),
 }
 
@@ -91,7 +85,7 @@ pub fn slot_info(image: &[u8], setting: Setting, slot: SlotNo) -> Known
         Viewed::At(v) => {
             let at = v.table;
             let t = fields::block_at(image, at);
-            info::info_in(t, entries::entry_count(t), slot)
+            infos::slot::info_in(t, entries::entry_count(t), slot)
         }
     }
 }
@@ -106,7 +100,7 @@ pub fn slot_name(image: &[u8], setting: Setting, slot: SlotNo) -> &[u8]
         Viewed::At(v) => {
             let at = v.table;
             let t = fields::block_at(image, at);
-            info::name_in(t, entries::entry_count(t), slot)
+            infos::slot::name_in(t, entries::entry_count(t), slot)
         }
     }
 }

@@ -3,7 +3,7 @@ use super::desk::Desk;
 use super::printing;
 use fields::bounds::min;
 use fields::bounds::part_of;
-use reading::Known;
+use infos::Known;
 use reading::Listed;
 use rules::Setting;
 use rules::SlotNo;

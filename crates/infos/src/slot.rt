@@ -8,7 +8,7 @@ ghost use Rattle.rules.specs.Answers.{given, unless};
 ghost use Rattle.rules.specs.Table.{rows};
 ghost use Rattle.rules.specs.Readers.{slot-there, info, name-in};
 ghost use Rattle.walks.specs.Entries.{HasEntries};
-ghost use Rattle.reading.specs.Answers.{known};
+ghost use Rattle.infos.specs.Answers.{known};
 
 // The entry number, start, length and flags of a slot.
 pub fn info_in(t: &[u8], n: usize, slot: SlotNo) -> Known

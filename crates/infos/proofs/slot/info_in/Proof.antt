@@ -1,4 +1,4 @@
--- `reading::info::info_in` reads the facts at the slot's entry, or refuses 7. Assumes nothing.
+-- `infos::slot::info_in` reads the facts at the slot's entry, or refuses 7. Assumes nothing.
 use mathlib.Core.Path.{_≡_}
 use mathlib.Core.Bool.{true}
 use Prim.Native.Nat.{_<_}
@@ -9,10 +9,10 @@ use Rattle.rules.specs.Table.{rows}
 use Rattle.rules.specs.Readers.{slot-there}
 use Rattle.walks.specs.Entries.{most-entries}
 use Rattle.walks.proofs.Joined.{failed, passed}
-use Rattle.reading.specs.Answers.{known}
-use Rattle.reading.proofs.SlotInfo.{row-counted, info-by-row}
-use Rattle.reading.proofs.info.info_in.Statement.{statement}
-use Rattle.reading.proofs.info.info_in.Tie as tie
+use Rattle.infos.specs.Answers.{known}
+use Rattle.infos.proofs.SlotInfo.{row-counted, info-by-row}
+use Rattle.infos.proofs.slot.info_in.Statement.{statement}
+use Rattle.infos.proofs.slot.info_in.Tie as tie
 
 -- past the refusal the slot is there, and its entry is counted
 there : (c : tie.After-slot-row)

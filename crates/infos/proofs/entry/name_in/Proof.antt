@@ -1,14 +1,14 @@
--- `inspect::entry::name_in` is the front of the name field of an entry that is counted, or an empty part. Assumes nothing.
+-- `infos::entry::name_in` is the front of the name field of an entry that is counted, or an empty part. Assumes nothing.
 use mathlib.Core.Path.{sym}
 use lib.Seq.{length-take-le}
 use borrow.Author.Needs.{needs}
 use Rattle.rules.specs.Table.{name}
 use Rattle.walks.specs.Entries.{entry-at}
-use Rattle.reading.proofs.SlotInfo.{name-in-front}
-use Rattle.inspect.specs.Entries.{name-in}
-use Rattle.inspect.proofs.Numbered.{not-there, there, entry-found}
-use Rattle.inspect.proofs.entry.name_in.Statement.{statement}
-use Rattle.inspect.proofs.entry.name_in.Tie as tie
+use Rattle.infos.proofs.SlotInfo.{name-in-front}
+use Rattle.infos.specs.Entries.{name-in}
+use Rattle.infos.proofs.Numbered.{not-there, there, entry-found}
+use Rattle.infos.proofs.entry.name_in.Statement.{statement}
+use Rattle.infos.proofs.entry.name_in.Tie as tie
 
 returns : tie.Need-returns
 unfolding name-in

@@ -1,12 +1,12 @@
--- `inspect::entry::info_in` reads an entry that is counted, or refuses 92. Assumes nothing.
+-- `infos::entry::info_in` reads an entry that is counted, or refuses 92. Assumes nothing.
 use native.Mathlib.Omega.{arith}
 use borrow.Author.Needs.{needs}
 use Rattle.rules.specs.Answers.{unless}
-use Rattle.reading.specs.Answers.{known}
-use Rattle.inspect.specs.Entries.{info-of, info-in}
-use Rattle.inspect.proofs.Numbered.{not-there, there, entry-found}
-use Rattle.inspect.proofs.entry.info_in.Statement.{statement}
-use Rattle.inspect.proofs.entry.info_in.Tie as tie
+use Rattle.infos.specs.Answers.{known}
+use Rattle.infos.specs.Entries.{info-of, info-in}
+use Rattle.infos.proofs.Numbered.{not-there, there, entry-found}
+use Rattle.infos.proofs.entry.info_in.Statement.{statement}
+use Rattle.infos.proofs.entry.info_in.Tie as tie
 
 returns : tie.Need-returns
 unfolding known info-in unless

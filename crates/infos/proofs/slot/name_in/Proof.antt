@@ -1,4 +1,4 @@
--- `reading::info::name_in` is the front of the name field of the slot's entry, or an empty part. Assumes nothing.
+-- `infos::slot::name_in` is the front of the name field of the slot's entry, or an empty part. Assumes nothing.
 use mathlib.Core.Path.{_≡_, sym}
 use mathlib.Core.Bool.{true}
 use native.Mathlib.Omega.{arith}
@@ -8,9 +8,9 @@ use Rattle.rules.specs.Table.{rows}
 use Rattle.rules.specs.Readers.{slot-there, name-in}
 use Rattle.walks.specs.Entries.{entry-at}
 use Rattle.walks.proofs.Joined.{failed, passed}
-use Rattle.reading.proofs.SlotInfo.{row-counted, name-by-row, name-in-front}
-use Rattle.reading.proofs.info.name_in.Statement.{statement}
-use Rattle.reading.proofs.info.name_in.Tie as tie
+use Rattle.infos.proofs.SlotInfo.{row-counted, name-by-row, name-in-front}
+use Rattle.infos.proofs.slot.name_in.Statement.{statement}
+use Rattle.infos.proofs.slot.name_in.Tie as tie
 
 -- past the refusal the slot is there
 there : (c : tie.After-slot-row)

@@ -1,8 +1,8 @@
--- `reading::info::slot_there` is the test of refusal 7. Assumes nothing.
+-- `infos::slot::slot_there` is the test of refusal 7. Assumes nothing.
 use borrow.Author.Needs.{needs}
 use Rattle.rules.specs.Readers.{slot-there}
-use Rattle.reading.proofs.info.slot_there.Statement.{statement}
-use Rattle.reading.proofs.info.slot_there.Tie as tie
+use Rattle.infos.proofs.slot.slot_there.Statement.{statement}
+use Rattle.infos.proofs.slot.slot_there.Tie as tie
 
 returns : tie.Need-returns
 unfolding slot-there
