@@ -1,7 +1,6 @@
 // Reading a flash: the table read, the boot order, the slots. Nothing here stores into an image.
-mod order; // the boot order by two blocks, and refusal 13
-
 use infos::Known;
+use order_lists::Listed;
 use rules::Refusal;
 use rules::Setting;
 use rules::SlotNo;
@@ -10,13 +9,8 @@ ghost use mathlib.Core.Path.{_≡_};
 ghost use lib.ListN.{length};
 ghost use Rattle.rules.specs.Readers.{order-list, row-after, table-part, slot-count, slot-info, slot-name};
 ghost use Rattle.infos.specs.Answers.{known};
-ghost use Rattle.reading.specs.Answers.{listed, count-of, counted};
-
-// How many slot numbers the order list wrote, or a refusal.
-pub enum Listed {
-    Count(usize),
-    Refused(Refusal),
-}
+ghost use Rattle.order_lists.specs.Answers.{listed, count-of};
+ghost use Rattle.reading.specs.Answers.{counted};
 
 // How many application slots there are, or a refusal.
 pub enum Counted {
@@ -53,7 +47,7 @@ pub fn order_list(image: &[u8], setting: Setting, row: &mut [u32]) -> Listed
             let pointers_at = v.pointers;
             let t = fields::block_at(image, table_at);
             let p = fields::block_at(image, pointers_at);
-            order::list_order(t, p, row)
+            order_lists::list_order(t, p, row)
         }
     }
 }

@@ -4,7 +4,7 @@ use super::printing;
 use fields::bounds::min;
 use fields::bounds::part_of;
 use infos::Known;
-use reading::Listed;
+use order_lists::Listed;
 use rules::Setting;
 use rules::SlotNo;
 use script::Question;

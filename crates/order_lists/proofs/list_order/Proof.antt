@@ -1,4 +1,4 @@
--- `reading::order::list_order` writes the order where it fits, or refuses 13 and leaves the row. Assumes nothing.
+-- `order_lists::list_order` writes the order where it fits, or refuses 13 and leaves the row. Assumes nothing.
 use lib.ListN.{length}
 use borrow.Author.Tests.{leb-true}
 use Rattle.rules.specs.Answers.{unless, _>>=_}
@@ -8,10 +8,10 @@ use Rattle.rules.specs.Copies.{order-by}
 use Rattle.slots.specs.Inner.RowsOf.{HasRows}
 use Rattle.slots.proofs.RowsOf.{count-of-rows}
 use Rattle.places.specs.Inner.PlacesOf.{HasPlaces}
-use Rattle.reading.specs.Answers.{listed, count-of}
+use Rattle.order_lists.specs.Answers.{listed, count-of}
 use borrow.Author.Needs.{needs}
-use Rattle.reading.proofs.order.list_order.Statement.{statement}
-use Rattle.reading.proofs.order.list_order.Tie as tie
+use Rattle.order_lists.proofs.list_order.Statement.{statement}
+use Rattle.order_lists.proofs.list_order.Tie as tie
 
 -- the rows and the places are those of the two blocks
 has : (c : tie.After-places-of)

@@ -1,6 +1,6 @@
-// The order listed into a lent row, and refusal 13.
-use super::Listed;
+// The boot order by a table and a pointer block, listed into a lent row, and refusal 13.
 use places::Places;
+use rules::Refusal;
 use rules::refusals::ROW_TOO_SHORT;
 use slots::Rows;
 ghost use mathlib.Core.Path.{_≡_};
@@ -13,7 +13,13 @@ ghost use Rattle.walks.specs.Entries.{HasEntries};
 ghost use Rattle.slots.specs.Inner.RowsOf.{HasRows};
 ghost use Rattle.places.specs.Inner.StandingPointers.{StandingPointers};
 ghost use Rattle.places.specs.Inner.PlacesOf.{HasPlaces};
-ghost use Rattle.reading.specs.Answers.{listed, count-of};
+ghost use Rattle.order_lists.specs.Answers.{listed, count-of};
+
+// How many slot numbers the order list wrote, or a refusal.
+pub enum Listed {
+    Count(usize),
+    Refused(Refusal),
+}
 
 // The order listed into the row, or refused 13. Whether it fits is known before anything is stored.
 pub fn list_order(t: &[u8], p: &[u8], row: &mut [u32]) -> Listed

@@ -1,4 +1,4 @@
--- `reading::order::has_room` is the test of refusal 13: room for all slots is room for the order. Assumes nothing.
+-- `order_lists::has_room` is the test of refusal 13: room for all slots is room for the order. Assumes nothing.
 use mathlib.Core.Path.{sym}
 use native.Mathlib.Omega.{arith}
 use lib.ListN.{length}
@@ -8,8 +8,8 @@ use Rattle.rules.specs.Pointers.{places}
 use Rattle.rules.specs.Copies.{order-by}
 use Rattle.boot_order.proofs.BootOrder.{order-fits}
 use borrow.Author.Needs.{needs}
-use Rattle.reading.proofs.order.has_room.Statement.{statement}
-use Rattle.reading.proofs.order.has_room.Tie as tie
+use Rattle.order_lists.proofs.has_room.Statement.{statement}
+use Rattle.order_lists.proofs.has_room.Tie as tie
 
 returns : tie.Need-returns
 unfolding order-by starts
