@@ -1,9 +1,9 @@
--- `reading::numbers::address_right` is the test of one address, exact where the sum would wrap. Assumes nothing.
+-- `bounds::address_right` is the test of one address, exact where the sum would wrap. Assumes nothing.
 use borrow.Author.Needs.{needs}
 use Rattle.rules.specs.Bytes.{multiple}
 use Rattle.rules.specs.Numbers.{address-right}
-use Rattle.views.proofs.numbers.address_right.Statement.{statement}
-use Rattle.views.proofs.numbers.address_right.Tie as tie
+use Rattle.bounds.proofs.address_right.Statement.{statement}
+use Rattle.bounds.proofs.address_right.Tie as tie
 
 returns : tie.Need-returns
 unfolding address-right multiple

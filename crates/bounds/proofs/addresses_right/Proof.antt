@@ -1,8 +1,8 @@
--- `reading::numbers::addresses_right` is the test of refusal 3. Assumes nothing.
+-- `bounds::addresses_right` is the test of refusal 3. Assumes nothing.
 use borrow.Author.Needs.{needs}
 use Rattle.rules.specs.Numbers.{addresses-right}
-use Rattle.views.proofs.numbers.addresses_right.Statement.{statement}
-use Rattle.views.proofs.numbers.addresses_right.Tie as tie
+use Rattle.bounds.proofs.addresses_right.Statement.{statement}
+use Rattle.bounds.proofs.addresses_right.Tie as tie
 
 returns : tie.Need-returns
 unfolding addresses-right

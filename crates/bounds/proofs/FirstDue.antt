@@ -1,17 +1,12 @@
 -- The first of refusals 1 to 3 that is due, and what follows if none is. Assumes nothing.
 use mathlib.Core.Path.{_≡_, refl}
 use mathlib.Core.Bool.{Bool, true, false, cond}
-use mathlib.Core.List.{List}
 use Prim.Native.Nat.{ℕ}
 use native.Mathlib.Omega.{arith}
-use lib.ListN.{length}
 use Rattle.rules.specs.Answers.{Answer, refused, numbered, unless}
 use Rattle.rules.specs.Numbers.{length-right, granule-right, addresses-right}
 use Rattle.rules.specs.declared.Setting.{Setting}
-use Rattle.rules.proofs.Claim.Invariant.{granule-holds-block}
-use Rattle.views.specs.Inner.Due.{due, NoneDue}
-use Rattle.views.specs.Inner.Followed.{BothInside}
-use Rattle.views.proofs.Seen.{told-inside}
+use Rattle.bounds.specs.Inner.Due.{due, NoneDue}
 
 -- ---- the three tests in their order
 
@@ -33,7 +28,7 @@ all-pass true true false h = absurd (omega (arith, h))
 all-pass true false p h = absurd (omega (arith, h))
 all-pass false g p h = absurd (omega (arith, h))
 
--- ---- what `numbers::due` answered
+-- ---- what `bounds::due` answered
 
 module _ (s : Setting) (len : ℕ) {r : ℕ} (e : r ≡ due s len) where
   -- whatever is asked after the three tests
@@ -49,11 +44,3 @@ module _ (s : Setting) (len : ℕ) {r : ℕ} (e : r ≡ due s len) where
   none-due h =
       let (l, g, p) = all-pass (length-right len) (granule-right (s .granule)) (addresses-right s len) (rw e at h) in
       record { long = l; grained = g; placed = p }
-
--- ---- if none is due, both table copies are inside the image
-
-pub both-inside : (s : Setting) (img : List ℕ) → NoneDue s (length img) → BothInside s img
-both-inside s img k =
-    let holds = granule-holds-block (s .granule) (k .grained) in
-    let (inside0, inside1) = told-inside s (length img) (k .placed) in
-    record { spt0-inside = omega arith; spt1-inside = omega arith; some-granule = omega arith }

@@ -6,7 +6,7 @@ use rules::refusals::BAD_LENGTH;
 ghost use mathlib.Core.Path.{_≡_};
 ghost use Prim.Native.Nat.{_<_};
 ghost use Rattle.rules.specs.Numbers.{length-right, granule-right, address-right, addresses-right};
-ghost use Rattle.views.specs.Inner.Due.{due};
+ghost use Rattle.bounds.specs.Inner.Due.{due};
 
 // The unit and the least length of an image, and the greatest.
 const BLOCK_SIZE: usize = rules::BLOCK_SIZE;

@@ -1,4 +1,4 @@
--- `reading::numbers::due` is the first of refusals 1 to 3 that is due. Assumes nothing.
+-- `bounds::due` is the first of refusals 1 to 3 that is due. Assumes nothing.
 use mathlib.Core.Path.{_≡_}
 use mathlib.Core.Bool.{true}
 use native.Mathlib.Omega.{arith}
@@ -6,9 +6,9 @@ use borrow.Author.Needs.{needs}
 use Rattle.rules.specs.Numbers.{length-right, granule-right}
 use Rattle.rules.proofs.Claim.Invariant.{granule-holds-block}
 use Rattle.walks.proofs.Joined.{failed, passed}
-use Rattle.views.specs.Inner.Due.{due}
-use Rattle.views.proofs.numbers.due.Statement.{statement}
-use Rattle.views.proofs.numbers.due.Tie as tie
+use Rattle.bounds.specs.Inner.Due.{due}
+use Rattle.bounds.proofs.due.Statement.{statement}
+use Rattle.bounds.proofs.due.Tie as tie
 
 -- what each test that passed says
 long : (c : tie.Else1) → length-right (c .before .before .args .len) ≡ true
