@@ -23,9 +23,9 @@ use Rattle.rules.proofs.Table.Standing.{length-entries}
 use Rattle.rules.proofs.Order.OnceEach.{once-order, once-length}
 use Rattle.rules.proofs.Steps.Frame.{length-block}
 use Rattle.walks.specs.Entries.{most-entries}
-use Rattle.reading.specs.Answers.{listed, count-of}
-use Rattle.reading.specs.declared.Listed.{Listed}
-use Rattle.reading.specs.declared.Listed.the-variants.{Count, Refused as NotListed}
+use Rattle.order_lists.specs.Answers.{listed, count-of}
+use Rattle.order_lists.specs.declared.Listed.{Listed}
+use Rattle.order_lists.specs.declared.Listed.the-variants.{Count, Refused as NotListed}
 use Rattle.views.proofs.Opening.{located}
 use Rattle.drafts.specs.Inner.Asked.{copies-equal}
 use Rattle.drafts.proofs.EqualCopies.{pairs-agree-if-equal}

@@ -3,7 +3,7 @@
 use commands::Command;
 use order::Change;
 use order::Order;
-use reading::Listed;
+use order_lists::Listed;
 use rules::Refusal;
 use rules::Setting;
 use rules::SlotNo;

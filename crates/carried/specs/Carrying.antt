@@ -6,7 +6,7 @@ use Prim.Native.Nat.{ℕ}
 use Rattle.rules.specs.declared.Setting.{Setting}
 use Rattle.rules.specs.Copies.{pairs-agree}
 use Rattle.rules.specs.Commands.{Command}
-use Rattle.reading.specs.declared.Listed.{Listed}
+use Rattle.order_lists.specs.declared.Listed.{Listed}
 use Rattle.jobs.specs.declared.Job.{Job}
 use Rattle.jobs.specs.declared.Ran.{Ran}
 use Rattle.commands.specs.declared.StartResult.{StartResult}

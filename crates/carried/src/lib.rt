@@ -3,7 +3,7 @@
 use commands::Command;
 use commands::StartResult;
 use jobs::Ran;
-use reading::Listed;
+use order_lists::Listed;
 use rules::Setting;
 ghost use Rattle.commands.specs.Begins.{command-of};
 ghost use Rattle.carried.specs.Carrying.{ran-twice, carried-twice, read-out-by};

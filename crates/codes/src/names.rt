@@ -1,8 +1,8 @@
 // A name that has to fit into lent bytes.
-use reading::Known;
+use infos::Known;
 use rules::refusals::NAME_TOO_LONG;
 ghost use mathlib.Core.Path.{_≡_};
-ghost use Rattle.reading.specs.Answers.{known};
+ghost use Rattle.infos.specs.Answers.{known};
 ghost use Rattle.codes.specs.Inner.Fitting.{fitting};
 
 // What is known of a slot or an entry, or 91 where its name is longer than the bytes lent for it.

@@ -20,7 +20,8 @@ use Rattle.rules.proofs.Lists.Tests.{and-true, refused-given}
 use Rattle.rules.proofs.Lists.Combinators.{all-at}
 use Rattle.rules.proofs.Table.Standing.{standing}
 use Rattle.views.proofs.Seen.{seen, table-read-stands}
-use Rattle.inspect.specs.Entries.{entry-there, entry-of, info-of, info-in, entry-info, name-in, entry-name}
+use Rattle.infos.specs.Entries.{entry-there, entry-of, info-of, info-in, name-in}
+use Rattle.inspect.specs.Entries.{entry-info, entry-name}
 
 -- no table has no names
 pub no-entry-name : (i : ℕ) → name-in (entries []) i ≡ []

@@ -15,9 +15,9 @@ use Rattle.rules.specs.Readers.{order-in, order-list, row-after, table-of, tabl
 use Rattle.rules.specs.Book.{Reading, read-by, reading}
 use Rattle.rules.specs.declared.View.{View}
 use Rattle.rules.proofs.Lists.Tests.{bind-given, given-inj, refused-given}
-use Rattle.reading.specs.Answers.{listed, count-of}
-use Rattle.reading.specs.declared.Listed.{Listed}
-use Rattle.reading.specs.declared.Listed.the-variants.{Count, Refused}
+use Rattle.order_lists.specs.Answers.{listed, count-of}
+use Rattle.order_lists.specs.declared.Listed.{Listed}
+use Rattle.order_lists.specs.declared.Listed.the-variants.{Count, Refused}
 use Rattle.joined.specs.ReadOut.{ReadOut, ReadFrom, seen, Answers}
 
 -- a table, and an order that is given

@@ -7,8 +7,8 @@ use Rattle.rules.specs.Answers.{Answer, given, _>>=_}
 use Rattle.rules.specs.declared.Setting.{Setting}
 use Rattle.rules.specs.Readers.{order-list, row-after, table-part}
 use Rattle.rules.specs.Book.{Reading}
-use Rattle.reading.specs.Answers.{listed, count-of}
-use Rattle.reading.specs.declared.Listed.{Listed}
+use Rattle.order_lists.specs.Answers.{listed, count-of}
+use Rattle.order_lists.specs.declared.Listed.{Listed}
 
 -- the part that `reading::table_read` returned, the answer of `reading::order_list`, the row lent to it, and that row
 -- afterwards

@@ -1,2 +1,1 @@
-pub mod SlotInfo
 pub mod Empty

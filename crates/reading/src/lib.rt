@@ -1,32 +1,20 @@
 // Reading a flash: the table read, the boot order, the slots. Nothing here stores into an image.
-mod order; // the boot order by two blocks, and refusal 13
-mod info; // one slot by a table, and refusal 7
-
+use infos::Known;
+use order_lists::Listed;
 use rules::Refusal;
 use rules::Setting;
-use rules::SlotInfo;
 use rules::SlotNo;
 use views::Viewed;
 ghost use mathlib.Core.Path.{_≡_};
 ghost use lib.ListN.{length};
 ghost use Rattle.rules.specs.Readers.{order-list, row-after, table-part, slot-count, slot-info, slot-name};
-ghost use Rattle.reading.specs.Answers.{listed, count-of, counted, known};
-
-// How many slot numbers the order list wrote, or a refusal.
-pub enum Listed {
-    Count(usize),
-    Refused(Refusal),
-}
+ghost use Rattle.infos.specs.Answers.{known};
+ghost use Rattle.order_lists.specs.Answers.{listed, count-of};
+ghost use Rattle.reading.specs.Answers.{counted};
 
 // How many application slots there are, or a refusal.
 pub enum Counted {
     Slots(usize),
-    Refused(Refusal),
-}
-
-// What is known of a slot, or a refusal.
-pub enum Known {
-    Is(SlotInfo),
     Refused(Refusal),
 }
 
@@ -59,7 +47,7 @@ pub fn order_list(image: &[u8], setting: Setting, row: &mut [u32]) -> Listed
             let pointers_at = v.pointers;
             let t = fields::block_at(image, table_at);
             let p = fields::block_at(image, pointers_at);
-            order::list_order(t, p, row)
+            order_lists::list_order(t, p, row)
         }
     }
 }
@@ -91,7 +79,7 @@ pub fn slot_info(image: &[u8], setting: Setting, slot: SlotNo) -> Known
         Viewed::At(v) => {
             let at = v.table;
             let t = fields::block_at(image, at);
-            info::info_in(t, entries::entry_count(t), slot)
+            infos::slot::info_in(t, entries::entry_count(t), slot)
         }
     }
 }
@@ -106,7 +94,7 @@ pub fn slot_name(image: &[u8], setting: Setting, slot: SlotNo) -> &[u8]
         Viewed::At(v) => {
             let at = v.table;
             let t = fields::block_at(image, at);
-            info::name_in(t, entries::entry_count(t), slot)
+            infos::slot::name_in(t, entries::entry_count(t), slot)
         }
     }
 }

@@ -6,7 +6,7 @@ use lib.ListN.{length}
 use Rattle.rules.specs.Answers.{Answer, refused, given, _>>=_}
 use Rattle.rules.specs.declared.Refusal.{Refusal}
 use Rattle.rules.proofs.Lists.Tests.{refused-given}
-use Rattle.reading.specs.Answers.{count-of}
+use Rattle.order_lists.specs.Answers.{count-of}
 
 pub order-refused : (a : Answer (List ℕ)) (why : Refusal) → refused why ≡ count-of a → refused why ≡ a
 unfolding count-of _>>=_

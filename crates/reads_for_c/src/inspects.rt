@@ -1,7 +1,7 @@
 // A flash looked into: where things are, which copies stand and agree, its entries, its places.
+use infos::Known;
 use inspect::Holding;
 use inspect::Inspected;
-use reading::Known;
 use rules::EntryNo;
 use rules::PlaceNo;
 use rules::Setting;

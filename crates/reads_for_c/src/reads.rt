@@ -1,7 +1,7 @@
 // A flash read: its boot order, its slots, what is known of one.
+use infos::Known;
+use order_lists::Listed;
 use reading::Counted;
-use reading::Known;
-use reading::Listed;
 use rules::Setting;
 use rules::SlotNo;
 ghost use lib.ListN.{length};

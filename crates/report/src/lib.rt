@@ -1,7 +1,7 @@
 // The listing of an image, put into a lent buffer: its boot order, then its dead places.
 mod dead; // the dead places
 
-use reading::Known;
+use infos::Known;
 use rules::Setting;
 use rules::SlotNo;
 use rules::View;

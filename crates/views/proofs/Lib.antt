@@ -1,4 +1,3 @@
 pub mod Views
 pub mod Seen
-pub mod Due
 pub mod Opening

@@ -21,7 +21,8 @@ use Rattle.rules.proofs.Lists.Tests.{and-true, unless-given, bind-given, given-
 use Rattle.rules.proofs.Copies.CopyRead.{which-address, WhichAddress}
 use Rattle.rules.proofs.Table.Standing.{FourBlocks, standing, at-most-127, four-blocks}
 use Rattle.rules.proofs.Claim.Invariant.{granule-holds-block}
-use Rattle.views.specs.Inner.Followed.{Followed}
+use Rattle.bounds.specs.Inner.Due.{NoneDue}
+use Rattle.views.specs.Inner.Followed.{BothInside, Followed}
 
 -- ---- a copy that is read
 
@@ -91,6 +92,13 @@ module _ (s : Setting) (len : ℕ) (placed : addresses-right s len ≡ true) whe
       (address-right (s .granule) len (s .spt1)) placed in
       let (_, right0) = and-true (not (eqb (s .spt0) (s .spt1))) (address-right (s .granule) len (s .spt0)) front in
       (address-inside (s .spt0) right0, address-inside (s .spt1) right1)
+
+-- if none of refusals 1 to 3 is due, both table copies are inside the image
+pub both-inside : (s : Setting) (img : List ℕ) → NoneDue s (length img) → BothInside s img
+both-inside s img k =
+    let holds = granule-holds-block (s .granule) (k .grained) in
+    let (inside0, inside1) = told-inside s (length img) (k .placed) in
+    record { spt0-inside = omega arith; spt1-inside = omega arith; some-granule = omega arith }
 
 -- ---- a table that stands can be followed
 

@@ -12,7 +12,7 @@ use Rattle.rules.specs.Pointers.{pointers-stand}
 use Rattle.rules.specs.Copies.{copy-read, no-table, table-read, pointers-read, view-through, view}
 use Rattle.rules.specs.declared.Refusal.{Refusal}
 use Rattle.rules.specs.declared.View.{View}
-use Rattle.views.specs.Inner.Due.{NoneDue}
+use Rattle.bounds.specs.Inner.Due.{NoneDue}
 
 -- where things are by the table at an address, with a pointer copy
 abbrev pub view-at : Setting → List ℕ → ℕ → ℕ → View

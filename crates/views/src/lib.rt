@@ -1,5 +1,4 @@
 // Where things are on a flash, and which copies are read. Nothing here stores into an image.
-mod numbers; // refusals 1 to 3
 mod followed; // refusals 50, 51 and 5
 
 use rules::NO_FAULT;
@@ -28,7 +27,7 @@ pub enum Faults {
 pub fn view(image: &[u8], setting: Setting) -> Viewed
     ensures { λ r. ⌜ viewed r ≡ view setting (now (image .entry)) ⌝ }
 {
-    let due = numbers::due(setting, image.len());
+    let due = bounds::due(setting, image.len());
     if due != 0 {
         return Viewed::Refused(Refusal {
             number: due,
@@ -50,7 +49,7 @@ pub fn view(image: &[u8], setting: Setting) -> Viewed
 pub fn table_faults(image: &[u8], setting: Setting) -> Faults
     ensures { λ r. ⌜ faulted r ≡ table-faults setting (now (image .entry)) ⌝ }
 {
-    let due = numbers::due(setting, image.len());
+    let due = bounds::due(setting, image.len());
     if due != 0 {
         return Faults::Refused(Refusal {
             number: due,

@@ -5,7 +5,7 @@ use borrow.Author.Needs.{needs}
 use Rattle.rules.specs.Answers.{_>>=_}
 use Rattle.rules.specs.Copies.{boot-order}
 use Rattle.rules.specs.Readers.{order-list, row-after}
-use Rattle.reading.specs.Answers.{listed, count-of}
+use Rattle.order_lists.specs.Answers.{listed, count-of}
 use Rattle.views.proofs.Opening.{was-viewed, was-refused, opened, has-entries, has-pointers}
 use Rattle.reading.proofs.order_list.Statement.{statement}
 use Rattle.reading.proofs.order_list.Tie as tie

@@ -4,7 +4,7 @@ use borrow.Author.Needs.{needs}
 use Rattle.rules.specs.Answers.{_>>=_}
 use Rattle.rules.specs.Table.{entries}
 use Rattle.rules.specs.Readers.{slot-info}
-use Rattle.reading.specs.Answers.{known}
+use Rattle.infos.specs.Answers.{known}
 use Rattle.views.proofs.Opening.{was-viewed, was-refused, opened, has-entries}
 use Rattle.reading.proofs.slot_info.Statement.{statement}
 use Rattle.reading.proofs.slot_info.Tie as tie

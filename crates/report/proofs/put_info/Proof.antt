@@ -1,5 +1,5 @@
 -- `put_info` puts start and length of a slot, by what is known of it. Assumes nothing.
-use Rattle.reading.specs.Answers.{known}
+use Rattle.infos.specs.Answers.{known}
 use Rattle.text.proofs.Puts.{then}
 use Rattle.report.specs.Listing.{info-text, told}
 use borrow.Author.Needs.{needs}

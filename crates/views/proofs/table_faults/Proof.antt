@@ -4,10 +4,11 @@ use lib.ListN.{length}
 use borrow.Author.Needs.{needs}
 use Rattle.rules.specs.Answers.{unless}
 use Rattle.rules.specs.Readers.{table-faults}
+use Rattle.bounds.specs.Inner.Due.{NoneDue}
+use Rattle.bounds.proofs.FirstDue.{was-due, none-due}
 use Rattle.views.specs.Answers.{faulted}
-use Rattle.views.specs.Inner.Due.{NoneDue}
 use Rattle.views.specs.Inner.Followed.{BothInside}
-use Rattle.views.proofs.Due.{was-due, none-due, both-inside}
+use Rattle.views.proofs.Seen.{both-inside}
 use Rattle.views.proofs.table_faults.Statement.{statement}
 use Rattle.views.proofs.table_faults.Tie as tie
 

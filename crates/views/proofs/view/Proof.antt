@@ -9,12 +9,12 @@ use Rattle.rules.specs.Bytes.{block}
 use Rattle.rules.specs.Table.{table-stands}
 use Rattle.rules.specs.Copies.{view}
 use Rattle.rules.proofs.Claim.Invariant.{granule-holds-block}
+use Rattle.bounds.specs.Inner.Due.{NoneDue}
+use Rattle.bounds.proofs.FirstDue.{was-due, none-due}
 use Rattle.views.specs.Answers.{viewed}
-use Rattle.views.specs.Inner.Due.{NoneDue}
 use Rattle.views.specs.Inner.Followed.{BothInside}
 use Rattle.views.proofs.Views.{refused-without, through-spt0, through-spt1}
-use Rattle.views.proofs.Seen.{followed}
-use Rattle.views.proofs.Due.{was-due, none-due, both-inside}
+use Rattle.views.proofs.Seen.{both-inside, followed}
 use Rattle.views.proofs.view.Statement.{statement}
 use Rattle.views.proofs.view.Tie as tie
 

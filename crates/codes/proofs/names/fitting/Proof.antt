@@ -2,7 +2,7 @@
 use borrow.Author.Needs.{needs}
 use borrow.Author.Tests.{le-leb, lt-leb}
 use Rattle.rules.specs.Answers.{unless, _>>=_}
-use Rattle.reading.specs.Answers.{known}
+use Rattle.infos.specs.Answers.{known}
 use Rattle.codes.specs.Inner.Fitting.{fitting}
 use Rattle.codes.proofs.names.fitting.Statement.{statement}
 use Rattle.codes.proofs.names.fitting.Tie as tie

@@ -2,9 +2,9 @@
 use mathlib.Core.Path.{refl, _∙_}
 use borrow.Author.Needs.{needs}
 use Rattle.rules.specs.Answers.{_>>=_}
-use Rattle.reading.specs.Answers.{known}
+use Rattle.infos.specs.Answers.{known}
 use Rattle.views.proofs.Opening.{was-viewed, was-refused, opened, has-entries}
-use Rattle.inspect.specs.Entries.{info-in, entry-info}
+use Rattle.inspect.specs.Entries.{entry-info}
 use Rattle.inspect.proofs.entry.entry_info.Statement.{statement}
 use Rattle.inspect.proofs.entry.entry_info.Tie as tie
 

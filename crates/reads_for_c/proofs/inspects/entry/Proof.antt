@@ -9,7 +9,7 @@ use Rattle.rules.specs.Answers.{given}
 use Rattle.rules.specs.Numbers.{setting}
 use Rattle.rules.specs.Readers.{row-after}
 use Rattle.rules.specs.declared.SlotInfo.{SlotInfo}
-use Rattle.reading.specs.Answers.{known}
+use Rattle.infos.specs.Answers.{known}
 use Rattle.inspect.specs.Entries.{entry-info, entry-name}
 use Rattle.codes.specs.Inner.Fitting.{fitting}
 use Rattle.codes.proofs.Numbered.{number-given, kept-given}

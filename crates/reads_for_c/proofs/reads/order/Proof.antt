@@ -4,7 +4,7 @@ use lib.ListN.{length}
 use borrow.Author.Needs.{needs}
 use Rattle.rules.specs.Numbers.{setting}
 use Rattle.rules.specs.Readers.{order-list}
-use Rattle.reading.specs.Answers.{listed}
+use Rattle.order_lists.specs.Answers.{listed}
 use Rattle.codes.proofs.Numbered.{number-refused, kept-refused, number-given, kept-given}
 use Rattle.reads_for_c.proofs.Ordered.{order-refused, order-given}
 use Rattle.reads_for_c.proofs.reads.order.Statement.{statement}

@@ -1,7 +1,7 @@
 -- `slot_facts` answers with what is known of a slot. Assumes nothing.
 use mathlib.Core.Path.{sym, ap, _∙_}
 use borrow.Author.Needs.{needs}
-use Rattle.reading.specs.Answers.{known}
+use Rattle.infos.specs.Answers.{known}
 use Rattle.codes.proofs.Numbered.{number-refused, kept-refused, number-given, kept-given}
 use Rattle.reads_for_c.proofs.reads.slot_facts.Statement.{statement}
 use Rattle.reads_for_c.proofs.reads.slot_facts.Tie as tie

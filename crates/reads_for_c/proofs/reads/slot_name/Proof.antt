@@ -6,7 +6,7 @@ use borrow.Author.Tests.{leb-true}
 use Rattle.rules.specs.Numbers.{setting}
 use Rattle.rules.specs.Readers.{row-after, slot-info, slot-name}
 use Rattle.rules.specs.Answers.{given}
-use Rattle.reading.specs.Answers.{known}
+use Rattle.infos.specs.Answers.{known}
 use Rattle.codes.specs.Inner.Fitting.{fitting}
 use Rattle.codes.proofs.Numbered.{number-given, kept-given}
 use Rattle.codes.proofs.Fits.{fits-refused, fits-given}

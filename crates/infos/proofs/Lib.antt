@@ -1,0 +1,2 @@
+mod SlotInfo
+mod Numbered
