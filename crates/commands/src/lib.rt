@@ -1,6 +1,5 @@
 // The six commands, started on a lent image that is only read: an answer beside a job.
 mod beginning; // what a start returns by a draft
-mod pairs; // repair: two copies compared, and the copy not read
 
 use drafts::Draft;
 use drafts::Outcome;
@@ -114,7 +113,7 @@ fn draft_by(
             room,
         ),
         Command::Delete(slot) => table_commands::deleting::delete_by(image, setting, v, slot, room),
-        Command::Repair => pairs::repair_by(image, setting, v, room),
+        Command::Repair => repair_command::repair_by(image, setting, v, room),
     }
 }
 

@@ -12,8 +12,8 @@ use Rattle.drafts.specs.JobFor.{repaired, repair-job, job-for}
 use Rattle.drafts.specs.Inner.Drafted.{drafted, Sound}
 use Rattle.drafts.proofs.Drafting.{drafts-job}
 use Rattle.drafts.proofs.EqualCopies.{either-within}
-use Rattle.commands.proofs.pairs.repair_by.Statement.{statement}
-use Rattle.commands.proofs.pairs.repair_by.Tie as tie
+use Rattle.repair_command.proofs.repair_by.Statement.{statement}
+use Rattle.repair_command.proofs.repair_by.Tie as tie
 
 -- what the view says of where the blocks are
 where-blocks-are : (s : tie.Start) → Located (s .args .image .now) (s .args .v)

@@ -1,7 +1,7 @@
 -- `other_copy` is the address of the copy that is not read. Assumes nothing.
 use borrow.Author.Tests.{eq-eqb, ne-eqb}
-use Rattle.commands.proofs.pairs.other_copy.Statement.{statement}
-use Rattle.commands.proofs.pairs.other_copy.Tie as tie
+use Rattle.repair_command.proofs.other_copy.Statement.{statement}
+use Rattle.repair_command.proofs.other_copy.Tie as tie
 
 returns : tie.Need-returns
 returns c =
