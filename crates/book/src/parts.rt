@@ -105,7 +105,7 @@ pub fn without_slot(table: [u8; rules::BLOCK_SIZE], slot: SlotNo) -> [u8; rules:
     let e = entry_of(table, slot);
     let n = entries::entry_count(&table);
     let mut made = no_block();
-    rooms::rows::put_without_row(&table, n, e, &mut made);
+    table_rows::put_without_row(&table, n, e, &mut made);
     made
 }
 
@@ -124,7 +124,7 @@ fn start_for(image: &[u8], setting: Setting, size: u64) -> u64
             let p = fields::block_at(image, pointers_at);
             let n = entries::entry_count(t);
             let places = place_walks::places_of(p);
-            rooms::starts::lowest_start(t, n, p, places, image.len() as u64, size)
+            rooms::lowest_start(t, n, p, places, image.len() as u64, size)
         }
     }
 }
@@ -133,7 +133,7 @@ fn start_for(image: &[u8], setting: Setting, size: u64) -> u64
 fn has_row(n: usize, size: u64) -> bool
     ensures { λ r. ⌜ r ≡ has-row n size ⌝ }
 {
-    (n < rules::MOST_ENTRIES) & rooms::starts::size_right(size)
+    (n < rules::MOST_ENTRIES) & rooms::size_right(size)
 }
 
 // A table with a row for a new slot of this length on a flash; as it was where no row is left or the length is not right.
@@ -156,6 +156,6 @@ pub fn with_new_slot(
     let start = start_for(image, setting, long);
     let name = new_name();
     let mut made = no_block();
-    rooms::rows::put_new_row(&table, n, &name, start, long, &mut made);
+    table_rows::put_new_row(&table, n, &name, start, long, &mut made);
     made
 }

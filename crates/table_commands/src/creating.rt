@@ -3,8 +3,6 @@ use blocks::made;
 use blocks::tables;
 use drafts::Draft;
 use drafts::Outcome;
-use rooms::rows;
-use rooms::starts;
 use rules::EntryNo;
 use rules::Setting;
 use rules::View;
@@ -43,7 +41,7 @@ fn ask_new(image: &[u8], v: View, name: &[u8], size: u64) -> Outcome
     if !tables::name_free(t, n, EntryNo(n), name) {
         return Outcome::Refused(NAME_TAKEN);
     }
-    if !starts::size_right(size) {
+    if !rooms::size_right(size) {
         return Outcome::Refused(LENGTH_WRONG);
     }
     if rules::MOST_ENTRIES <= n {
@@ -78,12 +76,12 @@ pub fn create_by(
             let n = entries::entry_count(t);
             let places = place_walks::places_of(p);
             let len = image.len() as u64;
-            let start = starts::lowest_start(t, n, p, places, len, long);
+            let start = rooms::lowest_start(t, n, p, places, len, long);
             if len <= start {
                 return Draft::Refused(NO_START);
             }
             let to = made::target(image.len(), setting.granule, v.spt0, v.spt1);
-            rows::put_new_row(t, n, name, start, long, room);
+            table_rows::put_new_row(t, n, name, start, long, room);
             Draft::Rewritten(made::pair_plan(to))
         }
     }

@@ -2,7 +2,6 @@
 use blocks::made;
 use drafts::Draft;
 use drafts::Outcome;
-use rooms::rows;
 use rules::Setting;
 use rules::SlotNo;
 use rules::View;
@@ -37,7 +36,7 @@ pub fn delete_by(image: &[u8], setting: Setting, v: View, slot: SlotNo, room: &m
             let n = entries::entry_count(t);
             let row = slots::slot_row(t, n, slot);
             let to = made::target(image.len(), setting.granule, v.spt0, v.spt1);
-            rows::put_without_row(t, n, row, room);
+            table_rows::put_without_row(t, n, row, room);
             Draft::Rewritten(made::pair_plan(to))
         }
     }

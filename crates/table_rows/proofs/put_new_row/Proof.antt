@@ -1,9 +1,9 @@
 -- `put_new_row` is the table with the new row. Assumes nothing.
 use mathlib.Core.Path.{_∙_}
-use Rattle.rooms.proofs.RowsPut.{padded-length, new-row-put}
+use Rattle.table_rows.proofs.RowsPut.{padded-length, new-row-put}
 use borrow.Author.Needs.{needs}
-use Rattle.rooms.proofs.rows.put_new_row.Statement.{statement}
-use Rattle.rooms.proofs.rows.put_new_row.Tie as tie
+use Rattle.table_rows.proofs.put_new_row.Statement.{statement}
+use Rattle.table_rows.proofs.put_new_row.Tie as tie
 
 returns : tie.Need-returns
 returns c =

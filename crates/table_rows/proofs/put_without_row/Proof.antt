@@ -3,10 +3,10 @@ use mathlib.Core.Path.{sym, _∙_}
 use Prim.Native.Nat.{_+_}
 use native.Mathlib.Omega.{arith}
 use lib.Seq.{length-take-le}
-use Rattle.rooms.proofs.RowsPut.{row-left-out}
+use Rattle.table_rows.proofs.RowsPut.{row-left-out}
 use borrow.Author.Needs.{needs}
-use Rattle.rooms.proofs.rows.put_without_row.Statement.{statement}
-use Rattle.rooms.proofs.rows.put_without_row.Tie as tie
+use Rattle.table_rows.proofs.put_without_row.Statement.{statement}
+use Rattle.table_rows.proofs.put_without_row.Tie as tie
 
 slice-aggregate-copy : tie.Need-slice-aggregate-copy
 slice-aggregate-copy c = sym (length-take-le (c .before .before .before .before .before .before .before .entry-offset .result) (c .before .before .before .before .before .before .before .before .before .before .args .t .now) (omega arith))

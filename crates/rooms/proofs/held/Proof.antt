@@ -9,8 +9,8 @@ use Rattle.rules.specs.Pointers.{places}
 use Rattle.walks.proofs.Loops.{member-here, member-goes}
 use Rattle.places.proofs.Values.{place-turn, place-over}
 use Rattle.places.proofs.PlacesOf.{count-is}
-use Rattle.rooms.proofs.starts.held.Statement.{statement}
-use Rattle.rooms.proofs.starts.held.Tie as tie
+use Rattle.rooms.proofs.held.Statement.{statement}
+use Rattle.rooms.proofs.held.Tie as tie
 
 returns : tie.Need-returns
 unfolding member

@@ -16,8 +16,8 @@ use Rattle.walks.specs.Entries.{entry-at}
 use Rattle.walks.proofs.Entries.{entries-turn, entries-end}
 use Rattle.rooms.specs.Inner.Candidates.{raised-by, raised}
 use Rattle.rooms.proofs.Candidates.{by-inside}
-use Rattle.rooms.proofs.starts.raised.Statement.{statement}
-use Rattle.rooms.proofs.starts.raised.Tie as tie
+use Rattle.rooms.proofs.raised.Statement.{statement}
+use Rattle.rooms.proofs.raised.Tie as tie
 
 abbrev Inv-loop : tie.InvT-loop
 Inv-loop t n start size a₀ i₀ a i =

@@ -17,8 +17,8 @@ use Rattle.rules.proofs.Table.Standing.{ends-inside}
 use Rattle.rules.proofs.Table.StartRule.{search-finds, search-fails}
 use Rattle.rooms.specs.Inner.Candidates.{Placed}
 use Rattle.rooms.proofs.Candidates.{Candidate, first-candidate, next-rises, next-is-candidate, stays-may}
-use Rattle.rooms.proofs.starts.lowest_start.Statement.{statement}
-use Rattle.rooms.proofs.starts.lowest_start.Tie as tie
+use Rattle.rooms.proofs.lowest_start.Statement.{statement}
+use Rattle.rooms.proofs.lowest_start.Tie as tie
 
 -- a candidate that is another one comes nearer to the image's end
 falls : (a b len : ℕ) → a ≤ b → (b ≡ a → ⊥) → b ≤ len → len - b < len - a

@@ -2,8 +2,8 @@
 use mathlib.Core.Path.{refl}
 use Rattle.rules.specs.Bytes.{multiple}
 use Rattle.rules.specs.Commands.{size-right}
-use Rattle.rooms.proofs.starts.size_right.Statement.{statement}
-use Rattle.rooms.proofs.starts.size_right.Tie as tie
+use Rattle.rooms.proofs.size_right.Statement.{statement}
+use Rattle.rooms.proofs.size_right.Tie as tie
 
 returns : tie.Need-returns
 unfolding size-right multiple

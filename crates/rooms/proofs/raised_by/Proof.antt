@@ -8,8 +8,8 @@ use Rattle.rules.specs.Table.{ranges-apart}
 use Rattle.rules.specs.Commands.{new-range}
 use Rattle.walks.specs.Entries.{entry-at}
 use Rattle.rooms.specs.Inner.Candidates.{raised-by}
-use Rattle.rooms.proofs.starts.raised_by.Statement.{statement}
-use Rattle.rooms.proofs.starts.raised_by.Tie as tie
+use Rattle.rooms.proofs.raised_by.Statement.{statement}
+use Rattle.rooms.proofs.raised_by.Tie as tie
 
 returns : tie.Need-returns
 unfolding raised-by ranges-apart new-range

@@ -8,8 +8,8 @@ use Rattle.rules.specs.Numbers.{longest}
 use Rattle.rules.specs.Pointers.{erased-value, all-ones}
 use Rattle.rooms.specs.Inner.Candidates.{next-candidate}
 use borrow.Author.Needs.{needs}
-use Rattle.rooms.proofs.starts.next_candidate.Statement.{statement}
-use Rattle.rooms.proofs.starts.next_candidate.Tie as tie
+use Rattle.rooms.proofs.next_candidate.Statement.{statement}
+use Rattle.rooms.proofs.next_candidate.Tie as tie
 
 -- an address in an image is not the value of an erased place
 not-erased : (a : ℕ) → a ≤ longest → all-ones a ≡ false
