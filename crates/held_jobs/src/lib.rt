@@ -1,15 +1,15 @@
 // The job that lent bytes hold: whether they hold one, its run, steps carried out elsewhere, what remains of it.
+use job_parts::Kind;
+use job_parts::Plan;
 use jobs::Did;
-use jobs::Kind;
 use jobs::Next;
-use jobs::Plan;
 ghost use mathlib.Core.Path.{_≡_};
 ghost use mathlib.Core.Bool.{true};
 ghost use lib.ListN.{length};
 ghost use Rattle.rules.specs.Bytes.{field};
 ghost use Rattle.rules.specs.Answers.{given};
 ghost use Rattle.jobs.specs.Jobs.{returned, did-by-run, image-after-run, steps-left, next-of};
-ghost use Rattle.jobs.specs.Inner.Parts.{countable};
+ghost use Rattle.jobs.specs.Inner.Countable.{countable};
 ghost use Rattle.job_bytes.specs.Form.{job-size, done-at, kind-numbered, plan-from, job-from, holds-job, decoded};
 ghost use Rattle.held_jobs.specs.Running.{bytes-after, RanHere, CountedHere};
 

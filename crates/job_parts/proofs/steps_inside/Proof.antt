@@ -1,8 +1,8 @@
 -- `steps_inside` is the test of the listed steps from one on. Assumes nothing.
 use borrow.Author.Needs.{needs}
-use Rattle.jobs.specs.Inner.Parts.{listed-inside}
-use Rattle.jobs.proofs.parts.steps_inside.Statement.{statement}
-use Rattle.jobs.proofs.parts.steps_inside.Tie as tie
+use Rattle.job_parts.specs.Inner.Parts.{listed-inside}
+use Rattle.job_parts.proofs.steps_inside.Statement.{statement}
+use Rattle.job_parts.proofs.steps_inside.Tie as tie
 
 returns : tie.Need-returns
 unfolding listed-inside

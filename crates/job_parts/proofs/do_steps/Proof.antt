@@ -2,9 +2,9 @@
 use lib.ListN.{length}
 use borrow.Author.Needs.{needs}
 use Rattle.part_steps.specs.Inner.Windows.{beyond}
-use Rattle.jobs.proofs.ListedSteps.{listed-parts, listed-done}
-use Rattle.jobs.proofs.parts.do_steps.Statement.{statement}
-use Rattle.jobs.proofs.parts.do_steps.Tie as tie
+use Rattle.job_parts.proofs.ListedSteps.{listed-parts, listed-done}
+use Rattle.job_parts.proofs.do_steps.Statement.{statement}
+use Rattle.job_parts.proofs.do_steps.Tie as tie
 
 do-part-requires : tie.Need-do-part-requires
 do-part-requires c κs =

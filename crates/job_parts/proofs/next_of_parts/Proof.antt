@@ -2,9 +2,9 @@
 use mathlib.Core.Path.{sym, _∙_}
 use native.Mathlib.Omega.{arith}
 use borrow.Author.Needs.{needs}
-use Rattle.jobs.proofs.ListedSteps.{next-in-first, next-in-second}
-use Rattle.jobs.proofs.parts.next_of_parts.Statement.{statement}
-use Rattle.jobs.proofs.parts.next_of_parts.Tie as tie
+use Rattle.job_parts.proofs.ListedSteps.{next-in-first, next-in-second}
+use Rattle.job_parts.proofs.next_of_parts.Statement.{statement}
+use Rattle.job_parts.proofs.next_of_parts.Tie as tie
 
 returns : tie.Need-returns
 returns c =

@@ -4,11 +4,11 @@ use native.Mathlib.Omega.{arith}
 use lib.Seq.{drop-nil, take-nil}
 use borrow.Author.Needs.{needs}
 use Rattle.rules.specs.Steps.{steps}
-use Rattle.jobs.specs.Jobs.{part}
+use Rattle.job_parts.specs.Listed.{part}
 use Rattle.part_steps.specs.Inner.Windows.{chosen}
-use Rattle.jobs.specs.Inner.Parts.{part-inside}
-use Rattle.jobs.proofs.parts.do_part.Statement.{statement}
-use Rattle.jobs.proofs.parts.do_part.Tie as tie
+use Rattle.job_parts.specs.Inner.Parts.{part-inside}
+use Rattle.job_parts.proofs.do_part.Statement.{statement}
+use Rattle.job_parts.proofs.do_part.Tie as tie
 
 enum-told : tie.Need-enum-told
 enum-told c = search needs

@@ -2,9 +2,10 @@
 use mathlib.Core.Path.{_∙_}
 use lib.Seq.{drop-nil}
 use borrow.Author.Needs.{needs}
-use Rattle.jobs.specs.Jobs.{part, first-step}
-use Rattle.jobs.proofs.parts.next_in_part.Statement.{statement}
-use Rattle.jobs.proofs.parts.next_in_part.Tie as tie
+use Rattle.part_steps.specs.Parts.{first-step}
+use Rattle.job_parts.specs.Listed.{part}
+use Rattle.job_parts.proofs.next_in_part.Statement.{statement}
+use Rattle.job_parts.proofs.next_in_part.Tie as tie
 
 enum-told : tie.Need-enum-told
 enum-told c = search needs

@@ -1,8 +1,8 @@
 -- `part_length` is the number of a part's steps. Assumes nothing.
 use borrow.Author.Needs.{needs}
-use Rattle.jobs.specs.Inner.Parts.{part-length}
-use Rattle.jobs.proofs.parts.part_length.Statement.{statement}
-use Rattle.jobs.proofs.parts.part_length.Tie as tie
+use Rattle.job_parts.specs.Inner.Parts.{part-length}
+use Rattle.job_parts.proofs.part_length.Statement.{statement}
+use Rattle.job_parts.proofs.part_length.Tie as tie
 
 enum-told : tie.Need-enum-told
 enum-told c = search needs

@@ -1,9 +1,9 @@
 -- `part_inside` is the test of a part's steps from one on. Assumes nothing.
 use mathlib.Core.Path.{_∙_}
 use borrow.Author.Needs.{needs}
-use Rattle.jobs.specs.Inner.Parts.{part-inside}
-use Rattle.jobs.proofs.parts.part_inside.Statement.{statement}
-use Rattle.jobs.proofs.parts.part_inside.Tie as tie
+use Rattle.job_parts.specs.Inner.Parts.{part-inside}
+use Rattle.job_parts.proofs.part_inside.Statement.{statement}
+use Rattle.job_parts.proofs.part_inside.Tie as tie
 
 enum-told : tie.Need-enum-told
 enum-told c = search needs

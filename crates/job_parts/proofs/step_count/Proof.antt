@@ -1,9 +1,9 @@
 -- `step_count` is the number of listed steps. Assumes nothing.
 use native.Mathlib.Omega.{arith}
 use borrow.Author.Needs.{needs}
-use Rattle.jobs.specs.Inner.Parts.{listed-length}
-use Rattle.jobs.proofs.parts.step_count.Statement.{statement}
-use Rattle.jobs.proofs.parts.step_count.Tie as tie
+use Rattle.job_parts.specs.Inner.Parts.{listed-length}
+use Rattle.job_parts.proofs.step_count.Statement.{statement}
+use Rattle.job_parts.proofs.step_count.Tie as tie
 
 returns : tie.Need-returns
 unfolding listed-length

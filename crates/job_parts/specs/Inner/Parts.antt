@@ -3,16 +3,14 @@
 use mathlib.Core.Path.{_≡_}
 use mathlib.Core.Bool.{Bool, true, _&&_}
 use mathlib.Core.List.{List}
-use Prim.Native.Nat.{ℕ, suc, _+_, _-_, _*_, _≤_, min}
+use Prim.Native.Nat.{ℕ, suc, _+_, _-_, _*_, min}
 use lib.ListN.{length}
 use Rattle.rules.specs.Bytes.{block-size}
 use Rattle.part_steps.specs.Parts.{place-room, meant}
 use Rattle.part_steps.specs.Inner.Windows.{rewrite-inside, places-inside}
-use Rattle.jobs.specs.declared.Kind.{Kind}
-use Rattle.jobs.specs.declared.Kind.the-variants.{Nothing, Rewrite, Places}
-use Rattle.jobs.specs.declared.Plan.{Plan}
-use Rattle.jobs.specs.declared.Did.{Did}
-use Rattle.jobs.specs.declared.Did.the-variants.{Steps}
+use Rattle.job_parts.specs.declared.Kind.{Kind}
+use Rattle.job_parts.specs.declared.Kind.the-variants.{Nothing, Rewrite, Places}
+use Rattle.job_parts.specs.declared.Plan.{Plan}
 
 -- the arrays of a part: its block, the places' numbers, the bytes for them
 pub record Sized (b ks v : List ℕ) : Type 0 where
@@ -28,14 +26,6 @@ part-length Places n = 8 * n
 unfoldable pub listed-length : Plan → ℕ
 listed-length p =
     part-length (p .first) (min (p .count) place-room) + part-length (p .second) (min (p .count) place-room)
-
--- no job has more steps
-abbrev pub most-steps : ℕ
-most-steps = 8202
-
--- of a job with so many steps done, what was done can be counted
-unfoldable pub countable : ℕ → Did → Type 0
-countable done did = (n : ℕ) → did ≡ Steps n → n ≤ most-steps - done
 
 -- ---- the steps from one on reach nothing outside an image of this length
 

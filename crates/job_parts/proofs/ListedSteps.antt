@@ -11,13 +11,14 @@ use Rattle.rules.specs.Lists.{all}
 use Rattle.rules.specs.Steps.{steps}
 use Rattle.rules.specs.Cuts.{inside}
 use Rattle.rules.specs.declared.Step.{Step}
-use Rattle.jobs.specs.Jobs.{place-room, meant, part, listed, first-step}
+use Rattle.part_steps.specs.Parts.{place-room, meant, first-step}
+use Rattle.job_parts.specs.Listed.{part, listed}
 use Rattle.part_steps.specs.Inner.Windows.{chosen, beyond}
-use Rattle.jobs.specs.Inner.Parts.{Sized, part-length, listed-length, part-inside, listed-inside}
+use Rattle.job_parts.specs.Inner.Parts.{Sized, part-length, listed-length, part-inside, listed-inside}
 use Rattle.part_steps.specs.declared.windows.Window.{Window}
-use Rattle.jobs.specs.declared.Kind.{Kind}
-use Rattle.jobs.specs.declared.Kind.the-variants.{Nothing, Rewrite, Places}
-use Rattle.jobs.specs.declared.Plan.{Plan}
+use Rattle.job_parts.specs.declared.Kind.{Kind}
+use Rattle.job_parts.specs.declared.Kind.the-variants.{Nothing, Rewrite, Places}
+use Rattle.job_parts.specs.declared.Plan.{Plan}
 use Rattle.part_steps.proofs.Splits.{all-split, steps-joined, first-left, first-right}
 use Rattle.part_steps.proofs.RewriteSteps.{length-rewrite, inside-rewrite}
 use Rattle.part_steps.proofs.PlaceNumbers.{length-numbers}

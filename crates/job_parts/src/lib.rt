@@ -1,6 +1,5 @@
-// The two parts of a job: of the listed steps, those from one on.
-use super::Kind;
-use super::Plan;
+// The two parts of a job: how many steps are listed, and of these, those from one on: whether they stay inside an image,
+// done, and which comes next.
 use fields::bounds;
 use part_steps::Next;
 use part_steps::into_places;
@@ -14,8 +13,28 @@ ghost use lib.ListN.{length, drop};
 ghost use Rattle.rules.specs.Steps.{steps};
 ghost use Rattle.part_steps.specs.Parts.{place-room, meant, first-step};
 ghost use Rattle.part_steps.specs.Inner.Windows.{chosen};
-ghost use Rattle.jobs.specs.Jobs.{part, listed};
-ghost use Rattle.jobs.specs.Inner.Parts.{Sized, part-length, listed-length, part-inside, listed-inside};
+ghost use Rattle.job_parts.specs.Listed.{part, listed};
+ghost use Rattle.job_parts.specs.Inner.Parts.{Sized, part-length, listed-length, part-inside, listed-inside};
+
+// What a part of a job does at its address.
+pub enum Kind {
+    Nothing,
+    Rewrite,
+    Places,
+}
+
+// A job without its arrays: image length and granule at the start, where the places of a pointer block begin, and
+// two parts, each with its kind and its address. Of the places' numbers the first `count` are meant.
+pub struct Plan {
+    pub len: usize,
+    pub granule: usize,
+    pub offset: u32,
+    pub first: Kind,
+    pub at: u32,
+    pub second: Kind,
+    pub after: u32,
+    pub count: usize,
+}
 
 // A rewrite: four zeros, the erase and a byte each.
 const REWRITE_STEPS: usize = 4101;
