@@ -5,8 +5,8 @@ use native.Mathlib.Omega.{arith}
 use lib.ListN.{length-set}
 use borrow.Author.Needs.{needs}
 use Rattle.rules.specs.Steps.{step, steps, programmed, programs}
-use Rattle.part_steps.proofs.device.program_four.Statement.{statement}
-use Rattle.part_steps.proofs.device.program_four.Tie as tie
+use Rattle.device.proofs.program_four.Statement.{statement}
+use Rattle.device.proofs.program_four.Tie as tie
 
 slice-read-image-2 : tie.Need-slice-read-image-2
 slice-read-image-2 c = simp length-set (search needs)

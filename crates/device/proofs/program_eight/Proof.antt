@@ -1,9 +1,9 @@
 -- `program_eight` does the steps that program these eight bytes: four and then four. Assumes nothing.
 use native.Mathlib.Omega.{arith}
 use borrow.Author.Needs.{needs}
-use Rattle.part_steps.proofs.ProgramSteps.{fours-done}
-use Rattle.part_steps.proofs.device.program_eight.Statement.{statement}
-use Rattle.part_steps.proofs.device.program_eight.Tie as tie
+use Rattle.device.proofs.Programs.{fours-done}
+use Rattle.device.proofs.program_eight.Statement.{statement}
+use Rattle.device.proofs.program_eight.Tie as tie
 
 returns : tie.Need-returns
 returns c =

@@ -6,9 +6,9 @@ use native.Mathlib.Omega.{arith}
 use lib.ListN.{length, drop, length-set}
 use borrow.Author.Needs.{needs}
 use Rattle.rules.specs.Steps.{steps, programs, programmed}
-use Rattle.part_steps.proofs.ProgramSteps.{programs-step, programs-over}
-use Rattle.part_steps.proofs.device.program.Statement.{statement}
-use Rattle.part_steps.proofs.device.program.Tie as tie
+use Rattle.device.proofs.Programs.{programs-step, programs-over}
+use Rattle.device.proofs.program.Statement.{statement}
+use Rattle.device.proofs.program.Tie as tie
 
 abbrev Inv-loop : tie.InvT-loop
 Inv-loop image₀ at given i₀ image i =

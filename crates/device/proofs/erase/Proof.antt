@@ -1,8 +1,8 @@
 -- `erase` is the definition's erase of so many bytes. Assumes nothing.
 use borrow.Author.Needs.{needs}
-use Rattle.part_steps.proofs.Erasing.{filled-part}
-use Rattle.part_steps.proofs.device.erase.Statement.{statement}
-use Rattle.part_steps.proofs.device.erase.Tie as tie
+use Rattle.device.proofs.Erasing.{filled-part}
+use Rattle.device.proofs.erase.Statement.{statement}
+use Rattle.device.proofs.erase.Tie as tie
 
 returns : tie.Need-returns
 returns c =
