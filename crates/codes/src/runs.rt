@@ -12,7 +12,7 @@ pub fn run(job: &mut [u8], image: &mut [u8], budget: usize, done: &mut usize) ->
         (running (now (job .entry)) (now (image .entry)))
         ⌝ }
 {
-    if !held_jobs::is_job(job) {
+    if !job_fields::is_job(job) {
         return NOT_A_JOB;
     }
     let did = held_jobs::run(job, image, budget);
@@ -31,7 +31,7 @@ pub fn advance(job: &mut [u8], steps: usize, count: &mut usize) -> u8
         Counted steps r (now (job .entry)) (now (job .exit)) (now (count .entry)) (now (count .exit))
         ⌝ }
 {
-    if !held_jobs::is_job(job) {
+    if !job_fields::is_job(job) {
         return NOT_A_JOB;
     }
     let did = held_jobs::advance(job, steps);

@@ -33,7 +33,7 @@ pub extern "C" fn delunkpawi_remaining(job: &[u8], count: &mut usize) -> u8
         × (now (count .exit) ≡ kept steps-left (decoded (now (job .entry))) (now (count .entry)))
         ⌝ }
 {
-    if !held_jobs::is_job(job) {
+    if !job_fields::is_job(job) {
         return NOT_A_JOB;
     }
     *count = held_jobs::remaining(job);
@@ -59,7 +59,7 @@ pub extern "C" fn delunkpawi_next_step(
         now (byte .exit) ≡ kept (λ j. step-byte (next-of j)) (decoded (now (job .entry))) (now (byte .entry))
         ⌝ }
 {
-    if !held_jobs::is_job(job) {
+    if !job_fields::is_job(job) {
         return NOT_A_JOB;
     }
     let code = codes::steps::step_code(held_jobs::next_step(job));

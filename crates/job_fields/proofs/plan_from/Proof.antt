@@ -1,8 +1,8 @@
 -- `plan_from` reads the numbers of a plan. Assumes nothing.
 use borrow.Author.Needs.{needs}
 use Rattle.job_bytes.specs.Form.{plan-from}
-use Rattle.held_jobs.proofs.plan_from.Statement.{statement}
-use Rattle.held_jobs.proofs.plan_from.Tie as tie
+use Rattle.job_fields.proofs.plan_from.Statement.{statement}
+use Rattle.job_fields.proofs.plan_from.Tie as tie
 
 returns : tie.Need-returns
 unfolding plan-from

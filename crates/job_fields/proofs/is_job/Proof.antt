@@ -3,8 +3,8 @@ use lib.ListN.{length}
 use borrow.Author.Tests.{eq-eqb, ne-eqb}
 use borrow.Author.Needs.{needs}
 use Rattle.job_bytes.specs.Form.{job-size, holds-job}
-use Rattle.held_jobs.proofs.is_job.Statement.{statement}
-use Rattle.held_jobs.proofs.is_job.Tie as tie
+use Rattle.job_fields.proofs.is_job.Statement.{statement}
+use Rattle.job_fields.proofs.is_job.Tie as tie
 
 returns : tie.Need-returns
 unfolding holds-job

@@ -1,8 +1,8 @@
 -- `kind_of` is the kind of a number. Assumes nothing.
 use borrow.Author.Tests.{eq-eqb, ne-eqb}
 use Rattle.job_bytes.specs.Form.{kind-numbered}
-use Rattle.held_jobs.proofs.kind_of.Statement.{statement}
-use Rattle.held_jobs.proofs.kind_of.Tie as tie
+use Rattle.job_fields.proofs.kind_of.Statement.{statement}
+use Rattle.job_fields.proofs.kind_of.Tie as tie
 
 returns : tie.Need-returns
 unfolding kind-numbered
