@@ -9,8 +9,8 @@ use Rattle.jobs.specs.declared.Did.{Did}
 use Rattle.jobs.specs.declared.Did.the-variants.{Steps, Refused}
 use Rattle.job_bytes.specs.Form.{malformed, job-from, decoded}
 use Rattle.held_jobs.specs.Running.{bytes-after, CountedHere}
 use Rattle.codes.specs.Answered.{number, kept}
-use Rattle.codes.specs.Counted.{answered, counts, bytes-counted, Counted}
+use Rattle.runs_for_c.specs.Counted.{answered, counts, bytes-counted, Counted}
 
 pub count-malformed : (bs : List ℕ) (n told : ℕ) → refused (numbered malformed) ≡ decoded bs → Counted n malformed bs bs told told
 unfolding counts bytes-counted number kept _>>=_

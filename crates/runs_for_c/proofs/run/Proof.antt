@@ -1,9 +1,9 @@
 -- `run` runs the job that bytes hold and leaves the advanced job in them. Assumes nothing.
 use borrow.Author.Needs.{needs}
-use Rattle.codes.proofs.Held.{holds-none, holds-one, job-held}
-use Rattle.codes.proofs.AfterRun.{run-malformed, run-refused, run-went}
-use Rattle.codes.proofs.runs.run.Statement.{statement}
-use Rattle.codes.proofs.runs.run.Tie as tie
+use Rattle.runs_for_c.proofs.Held.{holds-none, holds-one, job-held}
+use Rattle.runs_for_c.proofs.AfterRun.{run-malformed, run-refused, run-went}
+use Rattle.runs_for_c.proofs.run.Statement.{statement}
+use Rattle.runs_for_c.proofs.run.Tie as tie
 
 returns : tie.Need-returns
 returns c =

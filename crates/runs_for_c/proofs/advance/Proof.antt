@@ -1,9 +1,9 @@
 -- `advance` counts steps of the job that bytes hold. Assumes nothing.
 use borrow.Author.Needs.{needs}
-use Rattle.codes.proofs.Held.{holds-none, holds-one, job-held}
-use Rattle.codes.proofs.AfterCount.{count-malformed, count-refused, count-told}
-use Rattle.codes.proofs.runs.advance.Statement.{statement}
-use Rattle.codes.proofs.runs.advance.Tie as tie
+use Rattle.runs_for_c.proofs.Held.{holds-none, holds-one, job-held}
+use Rattle.runs_for_c.proofs.AfterCount.{count-malformed, count-refused, count-told}
+use Rattle.runs_for_c.proofs.advance.Statement.{statement}
+use Rattle.runs_for_c.proofs.advance.Tie as tie
 
 returns : tie.Need-returns
 returns c =

@@ -12,7 +12,7 @@ use Rattle.jobs.specs.declared.Did.the-variants.{Steps, Refused}
 use Rattle.jobs.proofs.Running.{refused-steps}
 use Rattle.job_bytes.specs.Form.{malformed, job-from, decoded}
 use Rattle.held_jobs.specs.Running.{bytes-after, RanHere}
-use Rattle.codes.specs.Ran.{lent, running, ran-as}
+use Rattle.runs_for_c.specs.Ran.{lent, running, ran-as}
 
 pub run-malformed : (bs img : List ℕ) (done budget : ℕ)
     → refused (numbered malformed) ≡ decoded bs

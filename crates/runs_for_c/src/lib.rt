@@ -1,8 +1,8 @@
 // A job in a lent buffer run, and steps of it counted, with the answer as numbers.
 use jobs::Did;
 use rules::refusals::NOT_A_JOB;
-ghost use Rattle.codes.specs.Counted.{Counted};
-ghost use Rattle.codes.specs.Ran.{lent, running, ran-as};
+ghost use Rattle.runs_for_c.specs.Counted.{Counted};
+ghost use Rattle.runs_for_c.specs.Ran.{lent, running, ran-as};
 
 // Does as many steps as the budget says, or all that remain, and tells how many.
 pub fn run(job: &mut [u8], image: &mut [u8], budget: usize, done: &mut usize) -> u8
