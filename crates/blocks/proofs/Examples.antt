@@ -3,7 +3,7 @@ use mathlib.Core.Path.{_≡_, refl}
 use mathlib.Core.List.{[], _∷_}
 use lib.ListN.{length, take}
 use Rattle.rules.specs.Bytes.{bytes-of}
-use Rattle.jobs.specs.declared.Kind.the-variants.{Nothing}
+use Rattle.job_parts.specs.declared.Kind.the-variants.{Nothing}
 use Rattle.blocks.specs.Made.{rewrites, no-job, no-steps, pair-rewritten, number-bytes, place-list}
 
 -- places 2 and 300, lowest byte first

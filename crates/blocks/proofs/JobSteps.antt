@@ -12,7 +12,7 @@ use Rattle.rules.specs.Commands.{into-places}
 use Rattle.rules.specs.declared.Step.{Step}
 use Rattle.jobs.specs.Jobs.{place-room, part, listed, steps-of}
 use Rattle.jobs.specs.declared.Job.{Job}
-use Rattle.jobs.specs.declared.Kind.the-variants.{Nothing, Rewrite}
+use Rattle.job_parts.specs.declared.Kind.the-variants.{Nothing, Rewrite}
 use Rattle.jobs.proofs.Typed.{Typed}
 use Rattle.blocks.specs.Made.{Lists, Rewriting, erased-block, rewrites, no-steps, no-job, pair-rewritten, place-list, places-written}
 use Rattle.blocks.proofs.Noting.{Below, noted-back, length-noted}

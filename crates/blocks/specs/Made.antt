@@ -8,8 +8,8 @@ use Rattle.rules.specs.Bytes.{block-size, bytes-of, erased-byte}
 use Rattle.rules.specs.declared.Step.{Step}
 use Rattle.jobs.specs.Jobs.{place-room, steps-of}
 use Rattle.jobs.specs.declared.Job.{Job}
-use Rattle.jobs.specs.declared.Plan.{Plan}
-use Rattle.jobs.specs.declared.Kind.the-variants.{Nothing, Rewrite, Places}
+use Rattle.job_parts.specs.declared.Plan.{Plan}
+use Rattle.job_parts.specs.declared.Kind.the-variants.{Nothing, Rewrite, Places}
 use Rattle.blocks.specs.declared.PlaceList.{PlaceList}
 use Rattle.blocks.specs.declared.Target.{Target}
 

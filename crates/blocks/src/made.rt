@@ -1,13 +1,13 @@
 // Jobs: none, and the plans of those that rewrite blocks or put bytes into places.
 use super::Target;
 use super::bytes;
+use job_parts::Kind;
+use job_parts::Plan;
 use jobs::Job;
-use jobs::Kind;
-use jobs::Plan;
 ghost use mathlib.Core.Path.{_≡_};
 ghost use mathlib.Core.Bool.{true, false, cond};
 ghost use Prim.Native.Nat.{_≤_};
-ghost use Rattle.jobs.specs.declared.Kind.the-variants.{Nothing, Rewrite};
+ghost use Rattle.job_parts.specs.declared.Kind.the-variants.{Nothing, Rewrite};
 ghost use Rattle.blocks.specs.Made.{target, rewrites-plan, places-plan, no-job};
 
 // The job of no steps, for no image.

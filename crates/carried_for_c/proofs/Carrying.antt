@@ -10,7 +10,7 @@ use Rattle.rules.specs.Book.{name-bytes, all-proper}
 use Rattle.job_bytes.specs.Form.{job-size}
 use Rattle.commands.specs.Begins.{start-result}
 use Rattle.handing.specs.Begun.{handed, started-into}
-use Rattle.codes.specs.Ran.{Lent, lent, running, ran-as}
+use Rattle.runs_for_c.specs.Ran.{Lent, lent, running, ran-as}
 use Rattle.handing.proofs.Beginning.{begun-holds}
 use Rattle.joined.specs.Items.{item-of}
 use Rattle.joined_for_c.specs.Items.{all-ran-for-c, CarriedForC, begun-for-c, runs-after, carried-out-for-c, by-value, all-carried-out-for-c}

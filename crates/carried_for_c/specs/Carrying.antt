@@ -10,7 +10,7 @@ use Rattle.rules.specs.Copies.{pairs-agree}
 use Rattle.rules.specs.Commands.{Command}
 use Rattle.rules.specs.Book.{Reading, reading}
 use Rattle.reads_for_c.specs.Answered.{Written}
-use Rattle.codes.specs.Ran.{Lent, lent}
+use Rattle.runs_for_c.specs.Ran.{Lent, lent}
 use Rattle.joined_for_c.specs.Items.{RunForC, runs-after, CarriedForC, carried-out-for-c}
 use Rattle.joined_for_c.specs.Claim.{Demand3-for-c}
 

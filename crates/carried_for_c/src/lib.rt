@@ -8,7 +8,7 @@ ghost use lib.ListN.{length};
 ghost use Rattle.commands.specs.Begins.{command-of, start-result};
 ghost use Rattle.job_bytes.specs.Form.{job-size};
 ghost use Rattle.handing.specs.Begun.{handed, started-into};
-ghost use Rattle.codes.specs.Ran.{lent};
+ghost use Rattle.runs_for_c.specs.Ran.{lent};
 ghost use Rattle.carried_for_c.specs.Carrying.{ran-if-started, carried-twice-for-c, order-told};
 
 // Two runs of a job that was started; none where the start was refused.

@@ -1,8 +1,7 @@
-// What C is told as numbers: a step, a judgement of a place, a test, what a run did.
+// What C is told as numbers: a step, a judgement of a place, a test.
 pub mod steps; // a step as three numbers
 pub mod answers; // a number told, or a refusal
 pub mod names; // a name that has to fit
-pub mod runs; // a job in a lent buffer run, and steps of it counted
 pub mod judgements; // a judgement of a place as two, a test as one
 
 // A step's kind, its address and the byte programmed.

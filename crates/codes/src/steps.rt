@@ -1,6 +1,6 @@
 // A step as three numbers: its kind, its address and the byte programmed.
 use super::StepCode;
-use jobs::Next;
+use part_steps::Next;
 use rules::Step;
 ghost use mathlib.Core.Path.{_≡_};
 ghost use Rattle.codes.specs.StepNumbers.{step-kind, step-address, step-byte};

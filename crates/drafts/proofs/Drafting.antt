@@ -13,7 +13,7 @@ use Rattle.rules.specs.declared.Step.{Step}
 use Rattle.rules.specs.declared.View.{View}
 use Rattle.jobs.specs.Jobs.{place-room, lent}
 use Rattle.jobs.specs.declared.Job.{Job}
-use Rattle.jobs.specs.declared.Plan.{Plan}
+use Rattle.job_parts.specs.declared.Plan.{Plan}
 use Rattle.blocks.specs.Made.{erased-block, no-places, no-value, rewrites-plan, rewrites, no-steps, pair-rewritten, places-plan, places-written}
 use Rattle.blocks.specs.declared.PlaceList.{PlaceList}
 use Rattle.drafts.specs.JobFor.{job-for, job-by}

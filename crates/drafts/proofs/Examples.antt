@@ -3,7 +3,7 @@ use mathlib.Core.Path.{_≡_, refl}
 use mathlib.Core.List.{[], _∷_}
 use Rattle.rules.specs.Lists.{member, without}
 use Rattle.rules.specs.Commands.{half-cleared-names}
-use Rattle.jobs.specs.declared.Kind.the-variants.{Rewrite, Places}
+use Rattle.job_parts.specs.declared.Kind.the-variants.{Rewrite, Places}
 use Rattle.blocks.specs.Made.{rewrites, pair-rewritten, places-written}
 use Rattle.drafts.specs.JobFor.{reorder-job, in-places-job, disable-job}
 

@@ -6,7 +6,7 @@ pub mod givings; // the places that give a slot
 use blocks::PlaceList;
 use blocks::Target;
 use blocks::made;
-use jobs::Plan;
+use job_parts::Plan;
 use places::Places;
 use rules::Refusal;
 use slots::Rows;

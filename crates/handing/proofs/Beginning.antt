@@ -11,7 +11,7 @@ use Rattle.rules.specs.declared.Setting.{Setting}
 use Rattle.rules.specs.Commands.{Command, start}
 use Rattle.rules.specs.declared.Step.{Step}
 use Rattle.rules.proofs.Lists.Tests.{by-cases}
-use Rattle.jobs.specs.declared.Plan.{Plan}
+use Rattle.job_parts.specs.declared.Plan.{Plan}
 use Rattle.jobs.specs.declared.Job.{Job}
 use Rattle.jobs.proofs.Typed.{Typed}
 use Rattle.blocks.specs.Made.{Lists}

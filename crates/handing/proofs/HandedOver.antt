@@ -5,8 +5,8 @@ use Prim.Native.Nat.{ℕ}
 use Rattle.rules.specs.Answers.{Answer, refused, given}
 use Rattle.jobs.specs.Jobs.{lent}
 use Rattle.jobs.specs.declared.Job.{Job}
-use Rattle.jobs.specs.declared.Kind.the-variants.{Nothing, Places}
-use Rattle.jobs.specs.declared.Plan.{Plan}
+use Rattle.job_parts.specs.declared.Kind.the-variants.{Nothing, Places}
+use Rattle.job_parts.specs.declared.Plan.{Plan}
 use Rattle.commands.specs.Begins.{returned}
 use Rattle.job_bytes.specs.Form.{block-over, job-over, encoded-over}
 use Rattle.handing.specs.Begun.{handed-over}

@@ -17,7 +17,8 @@ use Rattle.rules.proofs.Lists.Words.{length-bytes-of}
 use Rattle.rules.proofs.Lists.ByteLists.{field-by-front}
 use Rattle.fields.proofs.Stored.{length-put-at}
 use Rattle.jobs.specs.Jobs.{place-room, advanced, returned, ran-by, did-by-run, image-after-run, steps-left, counted, counting}
-use Rattle.jobs.specs.Inner.Parts.{listed-length, countable}
+use Rattle.job_parts.specs.Inner.Parts.{listed-length}
+use Rattle.jobs.specs.Inner.Countable.{countable}
 use Rattle.jobs.specs.declared.Job.{Job}
 use Rattle.jobs.specs.declared.Ran.{Ran}
 use Rattle.jobs.specs.declared.Did.{Did}

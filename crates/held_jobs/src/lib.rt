@@ -1,28 +1,17 @@
-// The job that lent bytes hold: whether they hold one, its run, steps carried out elsewhere, what remains of it.
+// The job that lent bytes hold: its run, steps carried out elsewhere, what remains of it.
+use job_fields::done_from;
+use job_fields::plan_from;
 use jobs::Did;
-use jobs::Kind;
 use jobs::Next;
-use jobs::Plan;
 ghost use mathlib.Core.Path.{_≡_};
 ghost use mathlib.Core.Bool.{true};
 ghost use lib.ListN.{length};
 ghost use Rattle.rules.specs.Bytes.{field};
 ghost use Rattle.rules.specs.Answers.{given};
 ghost use Rattle.jobs.specs.Jobs.{returned, did-by-run, image-after-run, steps-left, next-of};
-ghost use Rattle.jobs.specs.Inner.Parts.{countable};
-ghost use Rattle.job_bytes.specs.Form.{job-size, done-at, kind-numbered, plan-from, job-from, holds-job, decoded};
+ghost use Rattle.jobs.specs.Inner.Countable.{countable};
+ghost use Rattle.job_bytes.specs.Form.{job-size, done-at, job-from, holds-job, decoded};
 ghost use Rattle.held_jobs.specs.Running.{bytes-after, RanHere, CountedHere};
-
-// The bytes have the length, and their kinds are kinds.
-pub fn is_job(bytes: &[u8]) -> bool
-    ensures { λ r. ⌜ r ≡ holds-job (now (bytes .entry)) ⌝ }
-{
-    if bytes.len() != job_bytes::JOB_SIZE {
-        return false;
-    }
-    (fields::le16(bytes, job_bytes::FIRST_KIND_AT) <= 2)
-        & (fields::le16(bytes, job_bytes::SECOND_KIND_AT) <= 2)
-}
 
 // Runs the job where it lies: of its bytes only the number of steps done changes.
 pub fn run(job: &mut [u8], image: &mut [u8], budget: usize) -> Did
@@ -103,40 +92,4 @@ pub fn next_step(bytes: &[u8]) -> Next
         &bytes[job_bytes::PLACES_AT..job_bytes::FIRST_BLOCK_AT],
         &bytes[job_bytes::VALUE_AT..job_bytes::PLACES_AT],
     )
-}
-
-fn plan_from(bytes: &[u8]) -> Plan
-    requires { ⌜ length (now bytes) ≡ job-size ⌝ }
-    ensures { λ r. ⌜ r ≡ plan-from (now (bytes .entry)) ⌝ }
-{
-    Plan {
-        len: fields::le64(bytes, job_bytes::LEN_AT) as usize,
-        granule: fields::le64(bytes, job_bytes::GRANULE_AT) as usize,
-        offset: fields::le32(bytes, job_bytes::OFFSET_AT) as u32,
-        first: kind_of(fields::le16(bytes, job_bytes::FIRST_KIND_AT)),
-        at: fields::le32(bytes, job_bytes::FIRST_ADDRESS_AT) as u32,
-        second: kind_of(fields::le16(bytes, job_bytes::SECOND_KIND_AT)),
-        after: fields::le32(bytes, job_bytes::SECOND_ADDRESS_AT) as u32,
-        count: fields::le64(bytes, job_bytes::COUNT_AT) as usize,
-    }
-}
-
-// The steps done.
-fn done_from(bytes: &[u8]) -> usize
-    requires { ⌜ length (now bytes) ≡ job-size ⌝ }
-    ensures { λ r. ⌜ r ≡ field done-at 8 (now (bytes .entry)) ⌝ }
-{
-    fields::le64(bytes, job_bytes::DONE_AT) as usize
-}
-
-fn kind_of(n: u64) -> Kind
-    ensures { λ r. ⌜ r ≡ kind-numbered n ⌝ }
-{
-    if n == 0 {
-        return Kind::Nothing;
-    }
-    if n == 1 {
-        return Kind::Rewrite;
-    }
-    Kind::Places
 }

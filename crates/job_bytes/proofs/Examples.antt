@@ -7,7 +7,7 @@ use Rattle.rules.specs.Bytes.{block-size, bytes-of}
 use Rattle.rules.specs.Answers.{refused, unless, numbered}
 use Rattle.jobs.specs.Jobs.{place-room}
 use Rattle.jobs.specs.declared.Job.{Job}
-use Rattle.jobs.specs.declared.Kind.the-variants.{Rewrite, Places}
+use Rattle.job_parts.specs.declared.Kind.the-variants.{Rewrite, Places}
 use Rattle.job_bytes.specs.Form.{kind-number, sizes-encoded, addresses-encoded, kinds-encoded, numbers-encoded, malformed, holds-job, decoded}
 
 abbrev sample : Job

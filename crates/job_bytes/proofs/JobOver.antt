@@ -10,8 +10,8 @@ use Rattle.rules.specs.Bytes.{block-size}
 use Rattle.rules.specs.Final.{put-at}
 use Rattle.rules.proofs.Lists.ByteLists.{field-by-front}
 use Rattle.jobs.specs.Jobs.{place-room, numbers-from, meant, part, listed, steps-of}
-use Rattle.jobs.specs.declared.Kind.{Kind}
-use Rattle.jobs.specs.declared.Kind.the-variants.{Nothing, Rewrite, Places}
+use Rattle.job_parts.specs.declared.Kind.{Kind}
+use Rattle.job_parts.specs.declared.Kind.the-variants.{Nothing, Rewrite, Places}
 use Rattle.jobs.specs.declared.Job.{Job}
 use Rattle.job_bytes.specs.Form.{job-size, value-at, places-at, first-block-at, second-block-at, numbers-encoded, encoded}
 use Rattle.job_bytes.specs.Form.{job-from, block-over, meant-size, job-over, encoded-over, Same}

@@ -8,7 +8,7 @@ use lib.ListN.{length, drop, length-append}
 use lib.Seq.{take-at, drop-at, drop-drop}
 use Rattle.rules.specs.Bytes.{little-endian, bytes-of, field}
 use Rattle.rules.proofs.Lists.Words.{length-bytes-of}
-use Rattle.jobs.specs.declared.Plan.{Plan}
+use Rattle.job_parts.specs.declared.Plan.{Plan}
 use Rattle.job_bytes.specs.Form.{sizes-encoded, addresses-encoded, kinds-encoded, numbers-encoded}
 
 pub number-of-bytes : (n v : ℕ) → v < 256 ^ n → little-endian (bytes-of n v) ≡ v

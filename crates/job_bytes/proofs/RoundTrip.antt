@@ -12,8 +12,8 @@ use Rattle.rules.specs.Bytes.{block-size, bytes-of, field}
 use Rattle.rules.specs.Answers.{given, unless}
 use Rattle.rules.proofs.Lists.Words.{length-bytes-of}
 use Rattle.jobs.specs.Jobs.{place-room}
-use Rattle.jobs.specs.declared.Kind.{Kind}
-use Rattle.jobs.specs.declared.Kind.the-variants.{Nothing, Rewrite, Places}
+use Rattle.job_parts.specs.declared.Kind.{Kind}
+use Rattle.job_parts.specs.declared.Kind.the-variants.{Nothing, Rewrite, Places}
 use Rattle.jobs.specs.declared.Job.{Job}
 use Rattle.jobs.proofs.Typed.{Typed}
 use Rattle.job_bytes.specs.Form.{len-at, granule-at, count-at, done-at, offset-at, first-address-at, second-address-at}

@@ -8,9 +8,9 @@ use lib.ListN.{length, take, drop}
 use Rattle.rules.specs.Bytes.{block-size, bytes-of, field}
 use Rattle.rules.specs.Answers.{Answer, given, unless}
 use Rattle.jobs.specs.Jobs.{place-room, steps-of}
-use Rattle.jobs.specs.declared.Kind.{Kind}
-use Rattle.jobs.specs.declared.Kind.the-variants.{Nothing, Rewrite, Places}
-use Rattle.jobs.specs.declared.Plan.{Plan}
+use Rattle.job_parts.specs.declared.Kind.{Kind}
+use Rattle.job_parts.specs.declared.Kind.the-variants.{Nothing, Rewrite, Places}
+use Rattle.job_parts.specs.declared.Plan.{Plan}
 use Rattle.jobs.specs.declared.Job.{Job}
 
 -- the length of every such buffer

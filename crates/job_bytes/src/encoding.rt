@@ -1,13 +1,13 @@
 // A job into bytes: its numbers, and of its arrays what its steps use.
-use jobs::Kind;
-use jobs::Plan;
+use job_parts::Kind;
+use job_parts::Plan;
 ghost use mathlib.Core.Path.{_≡_};
 ghost use Prim.Native.Nat.{_+_, _≤_};
 ghost use lib.ListN.{length, take, drop};
 ghost use Rattle.rules.specs.Bytes.{block-size};
 ghost use Rattle.rules.specs.Final.{put-at};
 ghost use Rattle.jobs.specs.Jobs.{lent};
-ghost use Rattle.jobs.specs.declared.Kind.the-variants.{Rewrite};
+ghost use Rattle.job_parts.specs.declared.Kind.the-variants.{Rewrite};
 ghost use Rattle.job_bytes.specs.Form.{job-size, len-at, offset-at, first-kind-at, kind-number, meant-size};
 ghost use Rattle.job_bytes.specs.Form.{sizes-encoded, addresses-encoded, kinds-encoded, numbers-encoded, block-over, encoded-over};
 ghost use Rattle.job_bytes.specs.Inner.Fitting.{Fitting};

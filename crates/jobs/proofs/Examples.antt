@@ -8,7 +8,7 @@ use Rattle.rules.specs.Commands.{into-place, into-places}
 use Rattle.rules.specs.declared.Step.the-variants.{Program}
 use Rattle.jobs.specs.Jobs.{numbers-from, part, listed, steps-of, steps-left, first-step, next-of}
 use Rattle.jobs.specs.declared.Job.{Job}
-use Rattle.jobs.specs.declared.Kind.the-variants.{Places}
+use Rattle.job_parts.specs.declared.Kind.the-variants.{Places}
 use Rattle.part_steps.specs.declared.Next.the-variants.{Is, Finished}
 
 -- the start 0xA000 into place 2 of CPB1 at 0x7000, then of CPB0 at 0x6000

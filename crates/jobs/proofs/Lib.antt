@@ -1,4 +1,3 @@
-pub mod ListedSteps
 pub mod Running
 pub mod Counting
 pub mod Examples

@@ -15,12 +15,13 @@ use Rattle.rules.specs.Steps.{steps}
 use Rattle.rules.specs.Cuts.{Progress, run, inside, may-run}
 use Rattle.rules.specs.declared.Refusal.{Refusal}
 use Rattle.jobs.specs.Jobs.{listed, steps-of, under-way, admitted, steps-done, advanced, returned, ran, progress-after, ran-by, did-by-run, image-after-run, steps-left}
-use Rattle.jobs.specs.Inner.Parts.{Sized, listed-length, countable, listed-inside}
+use Rattle.job_parts.specs.Inner.Parts.{Sized, listed-length, listed-inside}
+use Rattle.jobs.specs.Inner.Countable.{countable}
 use Rattle.jobs.specs.declared.Job.{Job}
 use Rattle.jobs.specs.declared.Did.{Did}
 use Rattle.jobs.specs.declared.Did.the-variants.{Steps, Refused}
 use Rattle.part_steps.proofs.Splits.{drop-least}
-use Rattle.jobs.proofs.ListedSteps.{listed-bound, length-listed, inside-listed}
+use Rattle.job_parts.proofs.ListedSteps.{listed-bound, length-listed, inside-listed}
 
 -- a test that two things do not both hold
 pub one-fails : (a b : Bool) → not a || not b ≡ true → a && b ≡ false

@@ -1,35 +1,20 @@
 -- The list of steps that a job value denotes, and what a run of it answers and leaves. Assumes nothing.
 use mathlib.Core.Path.{_≡_}
-use mathlib.Core.List.{List, [], _++_}
+use mathlib.Core.List.{List}
 use Prim.Native.Nat.{ℕ, zero, suc, _+_, min}
 use lib.ListN.{take, drop, length}
 use Rattle.rules.specs.Answers.{Answer, refused, given, numbered}
-use Rattle.rules.specs.Steps.{rewrite}
-use Rattle.rules.specs.Commands.{into-places}
 use Rattle.rules.specs.Cuts.{Progress, run, may-run}
 use Rattle.rules.specs.declared.Step.{Step}
 pub use Rattle.part_steps.specs.Parts.{place-room, meant}
 unfoldable pub use Rattle.part_steps.specs.Parts.{numbers-from, first-step}
 use Rattle.part_steps.specs.declared.Next.{Next}
-use Rattle.jobs.specs.declared.Kind.{Kind}
-use Rattle.jobs.specs.declared.Kind.the-variants.{Nothing, Rewrite, Places}
-use Rattle.jobs.specs.declared.Plan.{Plan}
+unfoldable pub use Rattle.job_parts.specs.Listed.{part, listed}
+use Rattle.job_parts.specs.declared.Plan.{Plan}
 use Rattle.jobs.specs.declared.Job.{Job}
 use Rattle.jobs.specs.declared.Did.{Did}
 use Rattle.jobs.specs.declared.Did.the-variants.{Steps, Refused}
 use Rattle.jobs.specs.declared.Ran.{Ran}
-
--- the steps of a part: none, a block rewritten, or eight bytes into each of some places
-unfoldable pub part : Kind → ℕ → ℕ → List ℕ → List ℕ → List ℕ → List Step
-part Nothing at offset b ks v = []
-part Rewrite at offset b ks v = rewrite at b
-part Places at offset b ks v = into-places at offset v ks
-
--- the steps listed when the command started: those of the first part, then those of the second
-unfoldable pub listed : Plan → List ℕ → List ℕ → List ℕ → List ℕ → List Step
-listed p b0 b1 ks v =
-    part (p .first) (p .at) (p .offset) b0 (meant (p .count) ks) v
-    ++ part (p .second) (p .after) (p .offset) b1 (meant (p .count) ks) v
 
 -- the steps that a job denotes: those listed, less the ones done
 unfoldable pub steps-of : Job → List Step

@@ -1,6 +1,7 @@
 // A job: the list of steps of a command, by value. Running it, what remains of it, which step comes next, steps that
 // were carried out elsewhere.
 use fields::bounds;
+use job_parts::Plan;
 use part_steps::windows::Window;
 use rules::Refusal;
 use rules::refusals::NO_STEPS_LEFT;
@@ -8,34 +9,12 @@ use rules::refusals::OUTSIDE_IMAGE;
 ghost use mathlib.Core.Path.{_≡_};
 ghost use Prim.Native.Nat.{_-_};
 ghost use Rattle.jobs.specs.Jobs.{ran-by, returned, lent, did-by-run, image-after-run, steps-left, next-of, counted, counting};
-ghost use Rattle.jobs.specs.Inner.Parts.{Sized, listed-length, countable};
-
-mod parts;
-
+ghost use Rattle.job_parts.specs.Inner.Parts.{Sized, listed-length};
+ghost use Rattle.jobs.specs.Inner.Countable.{countable};
 pub use part_steps::Next; // the step that comes next
 
 // The room for places' numbers in a job: two bytes for each place that a pointer block may have.
 pub const PLACES_SIZE: usize = 2 * rules::MOST_PLACES;
-
-// What a part of a job does at its address.
-pub enum Kind {
-    Nothing,
-    Rewrite,
-    Places,
-}
-
-// A job without its arrays: image length and granule at the start, where the places of a pointer block begin, and
-// two parts, each with its kind and its address. Of the places' numbers the first `count` are meant.
-pub struct Plan {
-    pub len: usize,
-    pub granule: usize,
-    pub offset: u32,
-    pub first: Kind,
-    pub at: u32,
-    pub second: Kind,
-    pub after: u32,
-    pub count: usize,
-}
 
 // A job: its plan, how many steps are done, a block for each part, the places' numbers of two bytes each, lowest byte
 // first, and the bytes for the places.
@@ -117,18 +96,18 @@ pub fn run_in_place<'a>(
         budget (now (image .entry)))
         ⌝ }
 {
-    let count = parts::step_count(plan);
+    let count = job_parts::step_count(plan);
     if count <= done {
         return Did::Refused(NO_STEPS_LEFT);
     }
-    if (image.len() != plan.len) | !parts::steps_inside(plan, places, done, image.len()) {
+    if (image.len() != plan.len) | !job_parts::steps_inside(plan, places, done, image.len()) {
         return Did::Refused(OUTSIDE_IMAGE);
     }
     let window = Window {
         from: done,
         n: budget,
     };
-    parts::do_steps(plan, first, second, places, value, window, image);
+    job_parts::do_steps(plan, first, second, places, value, window, image);
     Did::Steps(bounds::min(budget, count - done))
 }
 
@@ -144,7 +123,7 @@ pub fn remaining(job: Job) -> usize
 pub fn remaining_of(plan: Plan, done: usize) -> usize
     ensures { λ r. ⌜ r ≡ listed-length plan - done ⌝ }
 {
-    bounds::saturating_sub(parts::step_count(plan), done)
+    bounds::saturating_sub(job_parts::step_count(plan), done)
 }
 
 // Which step comes next.
@@ -175,7 +154,7 @@ pub fn next_lent<'a>(
         (lent plan done (now (first .entry)) (now (second .entry)) (now (places .entry)) (now (value .entry)))
         ⌝ }
 {
-    parts::next_of_parts(plan, first, second, places, value, done)
+    job_parts::next_of_parts(plan, first, second, places, value, done)
 }
 
 // Counts steps that were carried out elsewhere, in their order: so many, or all that remain.

@@ -14,7 +14,7 @@ use Rattle.rules.specs.declared.Step.{Step}
 use Rattle.rules.proofs.Steps.Cutting.{under-way as started-with}
 use Rattle.jobs.specs.Jobs.{steps-of, under-way, admitted, ran, progress-after, ran-by}
 use Rattle.jobs.specs.declared.Job.{Job}
-use Rattle.jobs.specs.declared.Plan.{Plan}
+use Rattle.job_parts.specs.declared.Plan.{Plan}
 use Rattle.jobs.specs.declared.Ran.{Ran}
 use Rattle.blocks.specs.Made.{Lists, no-job}
 use Rattle.blocks.proofs.JobSteps.{no-job-sound}

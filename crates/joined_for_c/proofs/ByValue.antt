@@ -20,7 +20,7 @@ use Rattle.jobs.proofs.Running.{run-returned}
 use Rattle.blocks.specs.Made.{Lists, no-job}
 use Rattle.job_bytes.specs.Form.{job-size, malformed, job-from, holds-job, decoded}
 use Rattle.handing.specs.Begun.{for-job, begun-as}
-use Rattle.codes.specs.Ran.{lent, running, ran-as}
+use Rattle.runs_for_c.specs.Ran.{lent, running, ran-as}
 use Rattle.joined.specs.Runs.{all-ran}
 use Rattle.joined.specs.Items.{begun-so, carried-out, flash-left, all-carried-out}
 use Rattle.joined_for_c.specs.Items.{RunForC, all-ran-for-c, CarriedForC, begun-for-c, runs-after, carried-out-for-c, did-by, run-by-value, begun-by-value, by-value, all-carried-out-for-c}

@@ -14,7 +14,7 @@ use Rattle.commands.specs.Begins.{refusal, started}
 use Rattle.commands.specs.declared.StartResult.{StartResult}
 use Rattle.job_bytes.specs.Form.{job-size, job-from}
 use Rattle.handing.specs.Begun.{for-job, begun-as}
-use Rattle.codes.specs.Ran.{Lent, lent, running, ran-as}
+use Rattle.runs_for_c.specs.Ran.{Lent, lent, running, ran-as}
 use Rattle.joined.specs.Runs.{Run}
 use Rattle.joined.specs.Items.{Carried, flash-left}
 

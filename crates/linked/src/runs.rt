@@ -4,8 +4,8 @@ ghost use mathlib.Core.Path.{_≡_};
 ghost use Rattle.jobs.specs.Jobs.{steps-left, next-of};
 ghost use Rattle.job_bytes.specs.Form.{decoded};
 ghost use Rattle.codes.specs.Answered.{number, kept};
-ghost use Rattle.codes.specs.Counted.{Counted};
-ghost use Rattle.codes.specs.Ran.{lent, running, ran-as};
+ghost use Rattle.runs_for_c.specs.Counted.{Counted};
+ghost use Rattle.runs_for_c.specs.Ran.{lent, running, ran-as};
 ghost use Rattle.codes.specs.StepNumbers.{step-kind, step-address, step-byte};
 
 // Does as many steps as the budget says, or all that remain, and tells how many.
@@ -22,7 +22,7 @@ pub extern "C" fn delunkpawi_run(
         (running (now (job .entry)) (now (image .entry)))
         ⌝ }
 {
-    codes::runs::run(job, image, budget, done)
+    runs_for_c::run(job, image, budget, done)
 }
 
 // How many steps remain.
@@ -33,7 +33,7 @@ pub extern "C" fn delunkpawi_remaining(job: &[u8], count: &mut usize) -> u8
         × (now (count .exit) ≡ kept steps-left (decoded (now (job .entry))) (now (count .entry)))
         ⌝ }
 {
-    if !held_jobs::is_job(job) {
+    if !job_fields::is_job(job) {
         return NOT_A_JOB;
     }
     *count = held_jobs::remaining(job);
@@ -59,7 +59,7 @@ pub extern "C" fn delunkpawi_next_step(
         now (byte .exit) ≡ kept (λ j. step-byte (next-of j)) (decoded (now (job .entry))) (now (byte .entry))
         ⌝ }
 {
-    if !held_jobs::is_job(job) {
+    if !job_fields::is_job(job) {
         return NOT_A_JOB;
     }
     let code = codes::steps::step_code(held_jobs::next_step(job));
@@ -76,5 +76,5 @@ pub extern "C" fn delunkpawi_advance(job: &mut [u8], steps: usize, count: &mut u
         Counted steps r (now (job .entry)) (now (job .exit)) (now (count .entry)) (now (count .exit))
         ⌝ }
 {
-    codes::runs::advance(job, steps, count)
+    runs_for_c::advance(job, steps, count)
 }

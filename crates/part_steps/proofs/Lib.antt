@@ -1,5 +1,4 @@
 pub mod Splits
-pub mod Erasing
 pub mod ProgramSteps
 pub mod RewriteSteps
 pub mod PlaceNumbers

@@ -2,20 +2,18 @@
 use mathlib.Core.Path.{_≡_, refl, ap, sym, _∙_}
 use mathlib.Core.Bool.{true, _&&_}
 use mathlib.Core.Logic.{_⊎_, inl, inr}
-use mathlib.Core.List.{List, [], _∷_, _++_}
+use mathlib.Core.List.{List, [], _∷_}
 use Prim.Native.Nat.{ℕ, zero, suc, _+_, _-_, _≤_, _<_, min}
 use native.Mathlib.Nat.{add-zero}
-use native.Mathlib.Numerals.{add-one}
 use native.Mathlib.Omega.{arith}
 use lib.Dec.{leb, ltb}
 use lib.ListN.{length, getD, take, drop, length-drop, drop-of-length-le}
 use lib.Seq.{drop-cons, take-nil, take-all}
 use borrow.Author.Tests.{lt-ltb, le-ltb, lt-leb, leb-true, leb-false, ltb-false}
 use Rattle.rules.proofs.Lists.Tests.{by-cases, or-true}
-use Rattle.rules.proofs.Steps.Programming.{steps-append}
 use Rattle.walks.proofs.Joined.{and-with-true}
 use Rattle.rules.specs.Lists.{all}
-use Rattle.rules.specs.Steps.{step, steps, programmed, programs}
+use Rattle.rules.specs.Steps.{steps, programs}
 use Rattle.rules.specs.Cuts.{inside}
 use Rattle.rules.specs.declared.Step.the-variants.{Program}
 use Rattle.part_steps.specs.Parts.{first-step}
@@ -43,26 +41,6 @@ take-programs zero a bs = refl
 take-programs (suc n) a [] = refl
 take-programs (suc n) a (b ∷ bs) = ap (λ l. Program a b ∷ l) (take-programs n (suc a) bs)
 
--- ---- one byte more
-
-pub programs-cons : (a : ℕ) (bs : List ℕ) (i : ℕ) → i < length bs
-    → programs (a + i) (drop i bs) ≡ Program (a + i) (getD bs i 0) ∷ programs (a + (i + 1)) (drop (i + 1) bs)
-unfolding programs
-programs-cons a bs i h =
-    let e : a + suc i ≡ suc (a + i) = omega arith in
-    rw (drop-cons bs i 0 h, add-one, e)
-
-pub programs-step : (g a : ℕ) (bs img : List ℕ) (i : ℕ) → i < length bs
-    → steps g (programs (a + i) (drop i bs)) img
-    ≡ steps g (programs (a + (i + 1)) (drop (i + 1) bs)) (programmed (a + i) (getD bs i 0) img)
-unfolding steps step
-programs-step g a bs img i h = rw (programs-cons a bs i h)
-
-pub programs-over : (g a : ℕ) (bs img : List ℕ) (i : ℕ) → length bs ≤ i → steps g (programs (a + i) (drop i bs)) img
-    ≡ img
-unfolding steps programs
-programs-over g a bs img i h = rw (drop-of-length-le bs {i = i} h)
-
 -- at most n of the steps from one on, as bytes
 pub programs-part : (n k a : ℕ) (bs : List ℕ)
     → take n (drop k (programs a bs)) ≡ programs (a + k) (take n (drop k bs))
@@ -84,42 +62,6 @@ module _ (w : Window) (a : ℕ) (bs : List ℕ) where
   unfolding steps chosen
   no-programs g img h =
       rw (drop-of-length-le (programs a bs) {i = w .from} (rw length-programs h), take-nil)
-
--- ---- eight bytes, four and then four
-
-abbrev four-from : ℕ → List ℕ → List ℕ
-four-from i bs = getD bs i 0 ∷ getD bs (i + 1) 0 ∷ getD bs (i + 2) 0 ∷ getD bs (i + 3) 0 ∷ []
-
-eight-listed : (bs : List ℕ) → length bs ≡ 8 → bs ≡ four-from 0 bs ++ four-from 4 bs
-eight-listed bs h =
-    drop-cons bs 0 0 (omega arith)
-    ∙ rw (
-      drop-cons bs 1 0 (omega arith),
-      drop-cons bs 2 0 (omega arith),
-      drop-cons bs 3 0 (omega arith),
-      drop-cons bs 4 0 (omega arith),
-      drop-cons bs 5 0 (omega arith),
-      drop-cons bs 6 0 (omega arith),
-      drop-cons bs 7 0 (omega arith),
-      drop-of-length-le bs {i = 8} (omega arith),
-    ) refl
-
-programs-append : (a : ℕ) (xs ys : List ℕ) → programs a (xs ++ ys) ≡ programs a xs ++ programs (a + length xs) ys
-unfolding programs
-programs-append a [] ys = rw add-zero
-programs-append a (x ∷ xs) ys =
-    let e : a + suc (length xs) ≡ suc a + length xs = omega arith in
-    rw e (ap (λ l. Program a x ∷ l) (programs-append (suc a) xs ys))
-
--- image by image; the second four lie behind the first
-pub fours-done : (g a : ℕ) {b : ℕ} (bs img half whole : List ℕ) → length bs ≡ 8
-    → half ≡ steps g (programs a (four-from 0 bs)) img → whole ≡ steps g (programs b (four-from 4 bs)) half → b ≡ a + 4
-    → whole ≡ steps g (programs a bs) img
-fours-done g a {b} bs img half whole h first second at-4 =
-    let one-list : programs a bs ≡ programs a (four-from 0 bs) ++ programs b (four-from 4 bs) =
-    ap (programs a) (eight-listed bs h) ∙ programs-append a (four-from 0 bs) (four-from 4 bs) ∙ rw at-4 refl in
-    second ∙ rw (first, one-list)
-    (sym (steps-append g (programs a (four-from 0 bs)) (programs b (four-from 4 bs)) img))
 
 -- ---- inside an image
 

@@ -1,6 +1,5 @@
 // Eight bytes into each of some places of a pointer block: of these steps, those from one on.
 use super::Next;
-use super::device;
 use super::programs;
 use super::windows;
 use super::windows::Window;

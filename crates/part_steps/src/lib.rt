@@ -2,7 +2,6 @@
 // which comes next.
 use rules::Step;
 
-mod device;
 pub mod into_places; // eight bytes into each of some places
 mod programs;
 pub mod rewriting; // a block rewritten

@@ -1,6 +1,5 @@
 // Bytes programmed upward from an address: of these steps, those from one on.
 use super::Next;
-use super::device;
 use super::windows;
 use super::windows::Window;
 use fields::bounds;

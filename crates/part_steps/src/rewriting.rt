@@ -1,6 +1,5 @@
 // A block rewritten: of these steps, those from one on.
 use super::Next;
-use super::device;
 use super::programs;
 use super::windows;
 use super::windows::Window;

@@ -23,7 +23,7 @@ use Rattle.rules.proofs.Lists.Tests.{unless-given}
 use Rattle.rules.proofs.Table.Standing.{standing, length-entries-from}
 use Rattle.rules.proofs.Table.StartRule.{found-below}
 use Rattle.rules.proofs.Claim.Viewing.{viewed, table-stands-there}
-use Rattle.jobs.specs.declared.Plan.{Plan}
+use Rattle.job_parts.specs.declared.Plan.{Plan}
 use Rattle.blocks.specs.Made.{rewrites-plan}
 use Rattle.rooms.specs.Inner.Candidates.{Placed}
 use Rattle.drafts.specs.JobFor.{create-job, delete-job, job-for, job-by}

@@ -2,7 +2,7 @@
 use borrow.Author.Needs.{needs}
 use Rattle.commands.specs.Begins.{command-of}
 use Rattle.commands.proofs.NameLent.{bytes-lent}
-use Rattle.codes.specs.Ran.{lent}
+use Rattle.runs_for_c.specs.Ran.{lent}
 use Rattle.carried_for_c.proofs.Carrying.{carried-by}
 use Rattle.carried_for_c.proofs.carry_out.Statement.{statement}
 use Rattle.carried_for_c.proofs.carry_out.Tie as tie

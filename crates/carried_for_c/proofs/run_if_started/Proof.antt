@@ -1,6 +1,6 @@
 -- `run_if_started` runs a job that was started, twice. Assumes nothing.
 use borrow.Author.Needs.{needs}
-use Rattle.codes.specs.Ran.{lent}
+use Rattle.runs_for_c.specs.Ran.{lent}
 use Rattle.carried_for_c.proofs.Carrying.{not-started, started}
 use Rattle.carried_for_c.proofs.run_if_started.Statement.{statement}
 use Rattle.carried_for_c.proofs.run_if_started.Tie as tie

@@ -7,7 +7,7 @@ use Rattle.rules.specs.Bytes.{block, block-size, bytes-of}
 use Rattle.rules.specs.Answers.{Answer, refused, given}
 use Rattle.jobs.specs.Jobs.{place-room, lent}
 use Rattle.jobs.specs.declared.Job.{Job}
-use Rattle.jobs.specs.declared.Kind.the-variants.{Nothing, Places}
+use Rattle.job_parts.specs.declared.Kind.the-variants.{Nothing, Places}
 use Rattle.blocks.specs.Made.{erased-block, no-places, no-value}
 use Rattle.drafts.specs.declared.Draft.{Draft}
 use Rattle.drafts.specs.declared.Draft.the-variants.{Refused, NoSteps, Rewritten, IntoPlaces, Repaired}

@@ -6,8 +6,8 @@ use lib.ListN.{length, take}
 use lib.Seq.{length-take-le}
 use borrow.Author.Needs.{needs}
 use Rattle.jobs.specs.Jobs.{place-room}
-use Rattle.jobs.specs.declared.Kind.{Kind}
-use Rattle.jobs.specs.declared.Kind.the-variants.{Nothing, Rewrite, Places}
+use Rattle.job_parts.specs.declared.Kind.{Kind}
+use Rattle.job_parts.specs.declared.Kind.the-variants.{Nothing, Rewrite, Places}
 use Rattle.blocks.specs.Made.{erased-block, no-places, no-value}
 use Rattle.drafts.specs.Inner.Drafted.{drafted, Sound}
 use Rattle.handing.specs.Begun.{handed}

@@ -1,7 +1,7 @@
 -- `store_done` raises the number of steps done by what was done. Assumes nothing.
 use native.Mathlib.Omega.{arith}
 use borrow.Author.Needs.{needs}
-use Rattle.jobs.specs.Inner.Parts.{countable}
+use Rattle.jobs.specs.Inner.Countable.{countable}
 use Rattle.held_jobs.proofs.Advancing.{length-of-job, kept-here, raised-here}
 use Rattle.held_jobs.proofs.store_done.Statement.{statement}
 use Rattle.held_jobs.proofs.store_done.Tie as tie

@@ -3,7 +3,7 @@ use mathlib.Core.Path.{_≡_}
 use Prim.Native.Nat.{_≤_}
 use lib.ListN.{length}
 use Rattle.rules.specs.Bytes.{block-size}
-use Rattle.jobs.specs.declared.Kind.the-variants.{Rewrite}
+use Rattle.job_parts.specs.declared.Kind.the-variants.{Rewrite}
 use Rattle.jobs.specs.declared.Job.{Job}
 use Rattle.job_bytes.specs.Form.{meant-size}
 

@@ -3,7 +3,7 @@ use mathlib.Core.Path.{refl, _∙_}
 use Prim.Native.Nat.{_-_}
 use borrow.Author.Needs.{needs}
 use Rattle.jobs.specs.Jobs.{counting}
-use Rattle.jobs.specs.Inner.Parts.{listed-length}
+use Rattle.job_parts.specs.Inner.Parts.{listed-length}
 use Rattle.jobs.proofs.Running.{Arrays, remain}
 use Rattle.jobs.proofs.advance.Statement.{statement}
 use Rattle.jobs.proofs.advance.Tie as tie

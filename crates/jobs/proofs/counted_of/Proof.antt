@@ -3,8 +3,8 @@ use mathlib.Core.Path.{_≡_}
 use native.Mathlib.Omega.{arith}
 use borrow.Author.Needs.{needs}
 use Rattle.rules.specs.Answers.{numbered}
-use Rattle.jobs.specs.Inner.Parts.{countable}
-use Rattle.jobs.proofs.ListedSteps.{listed-bound}
+use Rattle.jobs.specs.Inner.Countable.{countable}
+use Rattle.job_parts.proofs.ListedSteps.{listed-bound}
 use Rattle.jobs.proofs.Running.{refused-steps}
 use Rattle.jobs.proofs.Counting.{counts-none, counts-some}
 use Rattle.jobs.proofs.counted_of.Statement.{statement}

@@ -1,7 +1,7 @@
 -- `returned` is the job with what was done counted. Assumes nothing.
 use native.Mathlib.Omega.{arith}
 use borrow.Author.Needs.{needs}
-use Rattle.jobs.specs.Inner.Parts.{countable}
+use Rattle.jobs.specs.Inner.Countable.{countable}
 use Rattle.jobs.proofs.returned.Statement.{statement}
 use Rattle.jobs.proofs.returned.Tie as tie
 

@@ -5,7 +5,7 @@ use Rattle.jobs.specs.Jobs.{next-of}
 use Rattle.held_jobs.proofs.Advancing.{length-of-job}
 use Rattle.codes.specs.StepNumbers.{step-kind, step-address, step-byte}
 use Rattle.codes.proofs.Numbered.{number-refused, kept-refused, number-given, kept-given}
-use Rattle.codes.proofs.Held.{holds-none, holds-one, job-held}
+use Rattle.runs_for_c.proofs.Held.{holds-none, holds-one, job-held}
 use Rattle.linked.proofs.runs.delunkpawi_next_step.Statement.{statement}
 use Rattle.linked.proofs.runs.delunkpawi_next_step.Tie as tie
 

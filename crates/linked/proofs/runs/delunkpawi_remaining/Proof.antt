@@ -4,7 +4,7 @@ use borrow.Author.Needs.{needs}
 use Rattle.jobs.specs.Jobs.{steps-left}
 use Rattle.held_jobs.proofs.Advancing.{length-of-job}
 use Rattle.codes.proofs.Numbered.{number-refused, kept-refused, number-given, kept-given}
-use Rattle.codes.proofs.Held.{holds-none, holds-one, job-held}
+use Rattle.runs_for_c.proofs.Held.{holds-none, holds-one, job-held}
 use Rattle.linked.proofs.runs.delunkpawi_remaining.Statement.{statement}
 use Rattle.linked.proofs.runs.delunkpawi_remaining.Tie as tie
 

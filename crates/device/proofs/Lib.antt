@@ -1,0 +1,2 @@
+mod Erasing
+mod Programs

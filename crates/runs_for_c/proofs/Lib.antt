@@ -1,0 +1,3 @@
+pub mod Held
+mod AfterRun
+mod AfterCount
