@@ -1,12 +1,7 @@
 // A job run, what remains of it, and steps of it that were carried out elsewhere.
-use rules::refusals::NOT_A_JOB;
-ghost use mathlib.Core.Path.{_≡_};
-ghost use Rattle.jobs.specs.Jobs.{steps-left, next-of};
-ghost use Rattle.job_bytes.specs.Form.{decoded};
-ghost use Rattle.codes.specs.Answered.{number, kept};
 ghost use Rattle.runs_for_c.specs.Counted.{Counted};
 ghost use Rattle.runs_for_c.specs.Ran.{lent, running, ran-as};
-ghost use Rattle.codes.specs.StepNumbers.{step-kind, step-address, step-byte};
+ghost use Rattle.runs_for_c.specs.Told.{RemainingTold, NextTold};
 
 // Does as many steps as the budget says, or all that remain, and tells how many.
 #[no_mangle]
@@ -28,16 +23,9 @@ pub extern "C" fn delunkpawi_run(
 // How many steps remain.
 #[no_mangle]
 pub extern "C" fn delunkpawi_remaining(job: &[u8], count: &mut usize) -> u8
-    ensures { λ r. ⌜
-        (r ≡ number (decoded (now (job .entry))))
-        × (now (count .exit) ≡ kept steps-left (decoded (now (job .entry))) (now (count .entry)))
-        ⌝ }
+    ensures { λ r. ⌜ RemainingTold (now (job .entry)) r (now (count .entry)) (now (count .exit)) ⌝ }
 {
-    if !job_fields::is_job(job) {
-        return NOT_A_JOB;
-    }
-    *count = held_jobs::remaining(job);
-    0
+    runs_for_c::remaining(job, count)
 }
 
 // Which step comes next: 0 for none, 1 for a byte programmed at an address, 2 for a granule erased there.
@@ -48,25 +36,14 @@ pub extern "C" fn delunkpawi_next_step(
     address: &mut usize,
     byte: &mut u8,
 ) -> u8
-    ensures { λ r. ⌜ r ≡ number (decoded (now (job .entry))) ⌝ }
-    ensures { λ _. ⌜
-        now (kind .exit) ≡ kept (λ j. step-kind (next-of j)) (decoded (now (job .entry))) (now (kind .entry))
-        ⌝ }
-    ensures { λ _. ⌜
-        now (address .exit) ≡ kept (λ j. step-address (next-of j)) (decoded (now (job .entry))) (now (address .entry))
-        ⌝ }
-    ensures { λ _. ⌜
-        now (byte .exit) ≡ kept (λ j. step-byte (next-of j)) (decoded (now (job .entry))) (now (byte .entry))
+    ensures { λ r. ⌜
+        NextTold (now (job .entry)) r
+        (now (kind .entry)) (now (kind .exit))
+        (now (address .entry)) (now (address .exit))
+        (now (byte .entry)) (now (byte .exit))
         ⌝ }
 {
-    if !job_fields::is_job(job) {
-        return NOT_A_JOB;
-    }
-    let code = codes::steps::step_code(held_jobs::next_step(job));
-    *kind = code.kind;
-    *address = code.address;
-    *byte = code.byte;
-    0
+    runs_for_c::next_step(job, kind, address, byte)
 }
 
 // Counts steps that were carried out elsewhere, in their order: so many, or all that remain; tells how many.

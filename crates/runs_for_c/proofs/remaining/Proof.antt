@@ -1,19 +1,19 @@
--- `delunkpawi_remaining` tells how many steps remain of the job that bytes hold. Assumes nothing.
+-- `remaining` tells how many steps remain of the job that bytes hold. Assumes nothing.
 use mathlib.Core.Path.{_∙_}
 use borrow.Author.Needs.{needs}
 use Rattle.jobs.specs.Jobs.{steps-left}
 use Rattle.held_jobs.proofs.Advancing.{length-of-job}
 use Rattle.codes.proofs.Numbered.{number-refused, kept-refused, number-given, kept-given}
 use Rattle.runs_for_c.proofs.Held.{holds-none, holds-one, job-held}
-use Rattle.linked.proofs.runs.delunkpawi_remaining.Statement.{statement}
-use Rattle.linked.proofs.runs.delunkpawi_remaining.Tie as tie
+use Rattle.runs_for_c.proofs.remaining.Statement.{statement}
+use Rattle.runs_for_c.proofs.remaining.Tie as tie
 
 returns : tie.Need-returns
 returns c =
     let t = c .before .is-job in
     let a = c .before .before .before .args in
     let e = holds-none (a .job .now) (t .result) (t .ensures) (c .if1 .taken) in
-    (number-refused e, kept-refused steps-left (a .count .now) e)
+    record { returned = number-refused e; count-left = kept-refused steps-left (a .count .now) e }
 
 remaining-requires : tie.Need-remaining-requires
 remaining-requires c κs =
@@ -26,8 +26,8 @@ returns-2 c =
     let t = c .before .before .is-job in
     let a = c .before .before .before .before .args in
     let e = job-held (a .job .now) (t .result) (t .ensures) (c .before .if1 .left) in
-    (number-given e, c .remaining .ensures ∙ kept-given steps-left (a .count .now) e)
+    record { returned = number-given e; count-left = c .remaining .ensures ∙ kept-given steps-left (a .count .now) e }
 
-pub delunkpawi-remaining-spec : {M : Type 1} → statement M
-delunkpawi-remaining-spec =
+pub remaining-spec : {M : Type 1} → statement M
+remaining-spec =
     tie.close (tie.spec (λ c κs. search needs) returns remaining-requires returns-2)

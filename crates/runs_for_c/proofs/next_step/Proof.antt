@@ -1,28 +1,25 @@
--- `delunkpawi_next_step` tells the next step of the job that bytes hold. Assumes nothing.
+-- `next_step` tells the next step of the job that bytes hold. Assumes nothing.
 use mathlib.Core.Path.{_∙_}
 use borrow.Author.Needs.{needs}
 use Rattle.jobs.specs.Jobs.{next-of}
 use Rattle.held_jobs.proofs.Advancing.{length-of-job}
 use Rattle.codes.specs.StepNumbers.{step-kind, step-address, step-byte}
 use Rattle.codes.proofs.Numbered.{number-refused, kept-refused, number-given, kept-given}
 use Rattle.runs_for_c.proofs.Held.{holds-none, holds-one, job-held}
-use Rattle.linked.proofs.runs.delunkpawi_next_step.Statement.{statement}
-use Rattle.linked.proofs.runs.delunkpawi_next_step.Tie as tie
+use Rattle.runs_for_c.proofs.next_step.Statement.{statement}
+use Rattle.runs_for_c.proofs.next_step.Tie as tie
 
 returns : tie.Need-returns
 returns c =
     let t = c .before .is-job in
     let a = c .before .before .before .args in
-    let e = holds-none (a .job .now) (t .result) (t .ensures) (c .if1 .taken) in (
-      number-refused e,
-      (
-        kept-refused (λ j. step-kind (next-of j)) (a .kind .now) e,
-        (
-          kept-refused (λ j. step-address (next-of j)) (a .address .now) e,
-          kept-refused (λ j. step-byte (next-of j)) (a .byte .now) e,
-        ),
-      ),
-    )
+    let e = holds-none (a .job .now) (t .result) (t .ensures) (c .if1 .taken) in
+    record {
+      returned = number-refused e;
+      kind-left = kept-refused (λ j. step-kind (next-of j)) (a .kind .now) e;
+      address-left = kept-refused (λ j. step-address (next-of j)) (a .address .now) e;
+      byte-left = kept-refused (λ j. step-byte (next-of j)) (a .byte .now) e;
+    }
 
 next-step-requires : tie.Need-next-step-requires
 next-step-requires c κs =
@@ -38,19 +35,16 @@ returns-2 c =
     let a = at-if1 .before .before .before .args in
     let e = job-held (a .job .now) (t .result) (t .ensures) (at-if1 .if1 .left) in
     let next = at-next-step .next-step .ensures in
-    let code = c .step-code .ensures in (
-      number-given e,
-      (
-        code .0 ∙ rw next (kept-given (λ j. step-kind (next-of j)) (a .kind .now) e),
-        (
-          code .1 .0 ∙ rw next (kept-given (λ j. step-address (next-of j)) (a .address .now) e),
-          code .1 .1 ∙ rw next (kept-given (λ j. step-byte (next-of j)) (a .byte .now) e),
-        ),
-      ),
-    )
+    let code = c .step-code .ensures in
+    record {
+      returned = number-given e;
+      kind-left = code .0 ∙ rw next (kept-given (λ j. step-kind (next-of j)) (a .kind .now) e);
+      address-left = code .1 .0 ∙ rw next (kept-given (λ j. step-address (next-of j)) (a .address .now) e);
+      byte-left = code .1 .1 ∙ rw next (kept-given (λ j. step-byte (next-of j)) (a .byte .now) e);
+    }
 
-pub delunkpawi-next-step-spec : {M : Type 1} → statement M
-delunkpawi-next-step-spec =
+pub next-step-spec : {M : Type 1} → statement M
+next-step-spec =
     tie.close
     (tie.spec
     (λ c κs. search needs)
