@@ -1,9 +1,9 @@
 -- `put_kind` puts the word of a dead place's kind. Assumes nothing.
 use Rattle.text.proofs.Puts.{put-nothing}
-use Rattle.report.specs.Listing.{kind-word}
+use Rattle.dead_places.specs.DeadLines.{kind-word}
 use borrow.Author.Needs.{needs}
-use Rattle.report.proofs.dead.put_kind.Statement.{statement}
-use Rattle.report.proofs.dead.put_kind.Tie as tie
+use Rattle.dead_places.proofs.put_kind.Statement.{statement}
+use Rattle.dead_places.proofs.put_kind.Tie as tie
 
 returns-2 : tie.Need-returns-2
 unfolding kind-word

@@ -5,10 +5,10 @@ use native.Mathlib.Omega.{arith}
 use Rattle.rules.specs.Table.{starts}
 use Rattle.rules.specs.Pointers.{place-count}
 use Rattle.places.proofs.PlacesOf.{count-is}
-use Rattle.report.proofs.DeadPlaces.{dead-from, dead-here, dead-above, none-dead}
+use Rattle.dead_places.proofs.DeadPlaces.{dead-from, dead-here, dead-above, none-dead}
 use borrow.Author.Needs.{needs}
-use Rattle.report.proofs.dead.any_dead.Statement.{statement}
-use Rattle.report.proofs.dead.any_dead.Tie as tie
+use Rattle.dead_places.proofs.any_dead.Statement.{statement}
+use Rattle.dead_places.proofs.any_dead.Tie as tie
 
 abbrev Inv-loop : tie.InvT-loop
 Inv-loop t rows p places k₀ k = (k ≤ place-count p) × (dead-from (starts t) p 0 ≡ dead-from (starts t) p k)

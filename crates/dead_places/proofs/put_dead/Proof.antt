@@ -1,10 +1,10 @@
 -- `put_dead` puts the header and the lines of the dead places, or nothing where no place is dead. Assumes nothing.
 use Rattle.walks.proofs.Joined.{failed, passed}
 use Rattle.text.proofs.Puts.{put-nothing, then}
-use Rattle.report.specs.Listing.{places-header, dead-part}
+use Rattle.dead_places.specs.DeadLines.{places-header, dead-part}
 use borrow.Author.Needs.{needs}
-use Rattle.report.proofs.dead.put_dead.Statement.{statement}
-use Rattle.report.proofs.dead.put_dead.Tie as tie
+use Rattle.dead_places.proofs.put_dead.Statement.{statement}
+use Rattle.dead_places.proofs.put_dead.Tie as tie
 
 returns-2 : tie.Need-returns-2
 unfolding dead-part places-header

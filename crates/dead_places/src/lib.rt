@@ -1,4 +1,4 @@
-// The dead places of a pointer block p by a table t: the second part of the listing.
+// The dead places of a pointer block p by a table t as lines of the listing: its second part.
 use places::Places;
 use rules::Place;
 use rules::PlaceNo;
@@ -10,7 +10,7 @@ ghost use Rattle.rules.specs.Pointers.{places as places-in, judged, is-dead};
 ghost use Rattle.slots.specs.Inner.RowsOf.{HasRows};
 ghost use Rattle.places.specs.Inner.PlacesOf.{HasPlaces};
 ghost use Rattle.text.specs.Put.{Put};
-ghost use Rattle.report.specs.Listing.{numbered, judged-line, dead-part, place-line, kind-word};
+ghost use Rattle.dead_places.specs.DeadLines.{numbered, judged-line, dead-part, place-line, kind-word};
 
 // Nothing where no place is dead.
 pub fn put_dead(t: &[u8], rows: Rows, p: &[u8], places: Places, out: &mut [u8], at: usize) -> usize

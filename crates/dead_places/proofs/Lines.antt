@@ -1,14 +1,14 @@
 -- Numbered texts put one after the other. Assumes nothing.
 use mathlib.Core.Path.{_≡_, sym, ap, _∙_}
 use mathlib.Core.List.{List, [], _∷_, _++_, append-assoc, append-nil}
-use Prim.Native.Nat.{ℕ, suc, _+_, _≤_, _<_}
+use Prim.Native.Nat.{ℕ, suc, _+_, _<_}
 use native.Mathlib.Omega.{arith}
 use native.Mathlib.Numerals.{add-one}
 use lib.ListN.{length, take, getD}
 use lib.Seq.{take-suc, length-take-le}
 use Rattle.text.specs.Put.{Put}
-use Rattle.text.proofs.Puts.{then, put-inside}
-use Rattle.report.specs.Listing.{numbered}
+use Rattle.text.proofs.Puts.{then}
+use Rattle.dead_places.specs.DeadLines.{numbered}
 
 module _ (text : ℕ → ℕ → List ℕ) where
   numbered-more : (n : ℕ) (xs : List ℕ) (x : ℕ)
@@ -30,8 +30,3 @@ module _ (text : ℕ → ℕ → List ℕ) where
       let line : Put after end (text (n + length (take i xs)) (getD xs i 0)) last final =
       rw (length-take-le i xs (omega arith)) q in
       rw (add-one, take-suc xs i 0, numbered-more) (then p line)
-
-pub with-inside : {out after text : List ℕ} {end : ℕ}
-    → Put out 0 text after end
-    → Put out 0 text after end × ((end ≤ length after) × (end ≡ length (take end after)))
-with-inside p = (p, put-inside p)

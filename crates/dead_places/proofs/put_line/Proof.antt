@@ -1,10 +1,10 @@
 -- `put_line` puts the line of a dead place, part by part, and nothing for one that is not dead. Assumes nothing.
 use Rattle.walks.proofs.Joined.{failed, passed}
 use Rattle.text.proofs.Puts.{put-nothing, then}
-use Rattle.report.specs.Listing.{place-line}
+use Rattle.dead_places.specs.DeadLines.{place-line}
 use borrow.Author.Needs.{needs}
-use Rattle.report.proofs.dead.put_line.Statement.{statement}
-use Rattle.report.proofs.dead.put_line.Tie as tie
+use Rattle.dead_places.proofs.put_line.Statement.{statement}
+use Rattle.dead_places.proofs.put_line.Tie as tie
 
 returns-2 : tie.Need-returns-2
 unfolding place-line

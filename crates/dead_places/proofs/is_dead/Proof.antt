@@ -1,8 +1,8 @@
 -- `is_dead` tells whether a place is dead. Assumes nothing.
 use borrow.Author.Needs.{needs}
 use Rattle.rules.specs.Pointers.{is-dead}
-use Rattle.report.proofs.dead.is_dead.Statement.{statement}
-use Rattle.report.proofs.dead.is_dead.Tie as tie
+use Rattle.dead_places.proofs.is_dead.Statement.{statement}
+use Rattle.dead_places.proofs.is_dead.Tie as tie
 
 pub is-dead-spec : {M : Type 1} → statement M
 is-dead-spec =

@@ -10,11 +10,11 @@ use Rattle.places.proofs.PlacesOf.{count-is}
 use Rattle.places.proofs.Values.{value-at, length-places}
 use Rattle.text.specs.Put.{Put}
 use Rattle.text.proofs.Puts.{put-nothing, keeps-length}
-use Rattle.report.specs.Listing.{numbered, judged-line}
-use Rattle.report.proofs.Lines.{one-more-text}
+use Rattle.dead_places.specs.DeadLines.{numbered, judged-line}
+use Rattle.dead_places.proofs.Lines.{one-more-text}
 use borrow.Author.Needs.{needs}
-use Rattle.report.proofs.dead.put_lines.Statement.{statement}
-use Rattle.report.proofs.dead.put_lines.Tie as tie
+use Rattle.dead_places.proofs.put_lines.Statement.{statement}
+use Rattle.dead_places.proofs.put_lines.Tie as tie
 
 abbrev Inv-loop : tie.InvT-loop
 Inv-loop t rows p places out₀ at end₀ next₀ out end next =

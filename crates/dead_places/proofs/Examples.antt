@@ -5,7 +5,7 @@ use Rattle.rules.specs.Lists.{any}
 use Rattle.rules.specs.Pointers.{erased-value, all-ones, all-zeros, top-byte-erased, one-more, slot-at, live-or, judged, is-dead}
 use Rattle.rules.specs.declared.Place.the-variants.{PartWritten}
 use Rattle.text.specs.Shown.{digits, decimal}
-use Rattle.report.specs.Listing.{space, newline, numbered, places-header, kind-word, place-line, judged-line, dead-part}
+use Rattle.dead_places.specs.DeadLines.{space, newline, numbered, places-header, kind-word, place-line, judged-line, dead-part}
 
 -- places 0, 2 and 4 are dead; the slot starts at 0x8000, place 3 is a duplicate of place 1
 pub lowest-place-first :
