@@ -5,7 +5,7 @@ use fields::bounds::min;
 use fields::bounds::part_of;
 use fields::stores;
 use rules::Setting;
-use script::Change;
+use script_lines::Change;
 ghost use Prim.Native.Nat.{_+_, _≤_, _<_};
 ghost use lib.ListN.{length};
 

@@ -7,7 +7,7 @@ use reading::Known;
 use reading::Listed;
 use rules::Setting;
 use rules::SlotNo;
-use script::Question;
+use script_lines::Question;
 
 pub fn ask(desk: Desk, room: &[u8], asked: Question) -> bool {
     let setting = desk.setting;

@@ -1,15 +1,50 @@
-// The forms of a line. A form that fits takes the place of the line that was found by the forms before it.
-use super::Change;
-use super::Line;
-use super::Question;
-use super::Steps;
+// What each kind of line of a replay script says: the forms of a line. A form that fits takes the place of the line that
+// was found by the forms before it.
 use commands::Command;
 use rules::SlotNo;
 use tokens::numbers::Row;
 ghost use mathlib.Core.Path.{_≡_};
 ghost use mathlib.Core.Bool.{cond};
 ghost use Prim.Native.Nat.{_%_};
-ghost use Rattle.script.specs.Lines.{takes, takes-slot, takes-ranges, by-forms, change-forms, question-forms, command-forms, steps-forms};
+ghost use Rattle.script_lines.specs.Forms.{takes, takes-slot, takes-ranges, by-forms, change-forms, question-forms, command-forms, steps-forms};
+
+// What a line does. A number is as it is written; whether it suits the image is judged elsewhere. `Command`: with an
+// empty name, or of none. `Named`: with the name that the line's last word has as bytes.
+pub enum Line {
+    Nothing,
+    Change(Change),
+    Question(Question),
+    Command(Command),
+    Named(Command),
+    Steps(Steps),
+    Error,
+}
+
+// `image`, `length`, `box`, `put` with the line's last word, `copy`.
+pub enum Change {
+    Image(usize, u8),
+    Length(usize),
+    Setting(usize, usize, usize),
+    Put(usize),
+    Copy(usize, usize, usize),
+}
+
+// `order` with the length of its row, `list`, `slot`, `peek`, `sum`, `dumps`.
+pub enum Question {
+    Order(usize),
+    Listing,
+    Slot(SlotNo),
+    Peek(usize, usize),
+    Sum,
+    Dumps(usize, usize, usize, usize),
+}
+
+// `run`, `cut`, `torn` with the number of ranges, which are the line's last words.
+pub enum Steps {
+    Run(usize),
+    Cut(usize, usize),
+    Torn(usize, usize),
+}
 
 // The row of a bare `order`; the longest row has room for every place.
 const ROW_DEFAULT: usize = 127;

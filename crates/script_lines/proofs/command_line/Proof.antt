@@ -1,12 +1,12 @@
 -- `command_line` follows the forms from the last to the first. Assumes nothing.
 use Rattle.commands.specs.declared.Command.the-variants.{Enable, Disable, Rename, Create, Delete}
-use Rattle.script.specs.Text.{ascii}
-use Rattle.script.specs.Lines.{by-forms, command-forms}
-use Rattle.script.specs.declared.Line.the-variants.{Command, Named}
-use Rattle.script.proofs.Forms.{slot-kept}
+use Rattle.script_lines.specs.Text.{ascii}
+use Rattle.script_lines.specs.Forms.{by-forms, command-forms}
+use Rattle.script_lines.specs.declared.Line.the-variants.{Command, Named}
+use Rattle.script_lines.proofs.Forms.{slot-kept}
 use borrow.Author.Needs.{needs}
-use Rattle.script.proofs.lines.command_line.Statement.{statement}
-use Rattle.script.proofs.lines.command_line.Tie as tie
+use Rattle.script_lines.proofs.command_line.Statement.{statement}
+use Rattle.script_lines.proofs.command_line.Tie as tie
 
 returns : tie.Need-returns
 unfolding by-forms command-forms

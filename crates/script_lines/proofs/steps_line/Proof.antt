@@ -1,8 +1,8 @@
 -- `steps_line` follows the forms from the last to the first. Assumes nothing.
-use Rattle.script.specs.Lines.{by-forms, steps-forms}
+use Rattle.script_lines.specs.Forms.{by-forms, steps-forms}
 use borrow.Author.Needs.{needs}
-use Rattle.script.proofs.lines.steps_line.Statement.{statement}
-use Rattle.script.proofs.lines.steps_line.Tie as tie
+use Rattle.script_lines.proofs.steps_line.Statement.{statement}
+use Rattle.script_lines.proofs.steps_line.Tie as tie
 
 returns : tie.Need-returns
 unfolding by-forms steps-forms

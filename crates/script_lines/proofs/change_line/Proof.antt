@@ -1,12 +1,12 @@
 -- `change_line` follows the forms from the last to the first. Assumes nothing.
-use Rattle.script.specs.Text.{ascii}
-use Rattle.script.specs.Lines.{takes, by-forms, change-forms}
-use Rattle.script.specs.declared.Line.the-variants.{Change}
-use Rattle.script.specs.declared.Change.the-variants.{Image}
-use Rattle.script.proofs.Forms.{kept}
+use Rattle.script_lines.specs.Text.{ascii}
+use Rattle.script_lines.specs.Forms.{takes, by-forms, change-forms}
+use Rattle.script_lines.specs.declared.Line.the-variants.{Change}
+use Rattle.script_lines.specs.declared.Change.the-variants.{Image}
+use Rattle.script_lines.proofs.Forms.{kept}
 use borrow.Author.Needs.{needs}
-use Rattle.script.proofs.lines.change_line.Statement.{statement}
-use Rattle.script.proofs.lines.change_line.Tie as tie
+use Rattle.script_lines.proofs.change_line.Statement.{statement}
+use Rattle.script_lines.proofs.change_line.Tie as tie
 
 returns : tie.Need-returns
 unfolding by-forms change-forms

@@ -10,9 +10,9 @@ use borrow.Author.Tests.{leb-true}
 use Rattle.rules.specs.Lists.{same}
 use Rattle.rules.specs.declared.SlotNo.{SlotNo}
 use Rattle.rules.proofs.Lists.Tests.{by-cases, clash, and-true, same-true, same-of}
-use Rattle.script.specs.Lines.{takes, takes-slot, slot-of}
+use Rattle.script_lines.specs.Forms.{takes, takes-slot, slot-of}
 use Rattle.tokens.specs.declared.numbers.Row.{Row}
-use Rattle.script.specs.declared.Line.{Line}
+use Rattle.script_lines.specs.declared.Line.{Line}
 
 -- a test that passes exactly for equal texts
 pub equal-texts : {r : Bool} {xs ys : List ℕ} → (r ≡ true → xs ≡ ys) → (xs ≡ ys → r ≡ true) → r ≡ same xs ys

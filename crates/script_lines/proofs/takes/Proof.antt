@@ -1,9 +1,9 @@
 -- `takes` is the test of the verb and of the numbers. Assumes nothing.
-use Rattle.script.specs.Lines.{takes}
-use Rattle.script.proofs.Forms.{equal-texts}
+use Rattle.script_lines.specs.Forms.{takes}
+use Rattle.script_lines.proofs.Forms.{equal-texts}
 use borrow.Author.Needs.{needs}
-use Rattle.script.proofs.lines.takes.Statement.{statement}
-use Rattle.script.proofs.lines.takes.Tie as tie
+use Rattle.script_lines.proofs.takes.Statement.{statement}
+use Rattle.script_lines.proofs.takes.Tie as tie
 
 returns : tie.Need-returns
 unfolding takes

@@ -1,9 +1,9 @@
 -- `takes_ranges` is the test of the verb, of a number and of pairs of numbers. Assumes nothing.
-use Rattle.script.specs.Lines.{takes-ranges}
-use Rattle.script.proofs.Forms.{equal-texts}
+use Rattle.script_lines.specs.Forms.{takes-ranges}
+use Rattle.script_lines.proofs.Forms.{equal-texts}
 use borrow.Author.Needs.{needs}
-use Rattle.script.proofs.lines.takes_ranges.Statement.{statement}
-use Rattle.script.proofs.lines.takes_ranges.Tie as tie
+use Rattle.script_lines.proofs.takes_ranges.Statement.{statement}
+use Rattle.script_lines.proofs.takes_ranges.Tie as tie
 
 returns : tie.Need-returns
 unfolding takes-ranges

@@ -1,12 +1,12 @@
 -- `question_line` follows the forms from the last to the first. Assumes nothing.
-use Rattle.script.specs.Text.{ascii}
-use Rattle.script.specs.Lines.{by-forms, question-forms}
-use Rattle.script.specs.declared.Line.the-variants.{Question}
-use Rattle.script.specs.declared.Question.the-variants.{Slot}
-use Rattle.script.proofs.Forms.{slot-kept}
+use Rattle.script_lines.specs.Text.{ascii}
+use Rattle.script_lines.specs.Forms.{by-forms, question-forms}
+use Rattle.script_lines.specs.declared.Line.the-variants.{Question}
+use Rattle.script_lines.specs.declared.Question.the-variants.{Slot}
+use Rattle.script_lines.proofs.Forms.{slot-kept}
 use borrow.Author.Needs.{needs}
-use Rattle.script.proofs.lines.question_line.Statement.{statement}
-use Rattle.script.proofs.lines.question_line.Tie as tie
+use Rattle.script_lines.proofs.question_line.Statement.{statement}
+use Rattle.script_lines.proofs.question_line.Tie as tie
 
 returns : tie.Need-returns
 unfolding by-forms question-forms
