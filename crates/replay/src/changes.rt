@@ -55,7 +55,7 @@ fn put(desk: Desk, room: &mut [u8], at: usize, word: &[u8]) -> Desk {
     }
     let from = part.from;
     let to = part.to;
-    tokens::hex::decode(word, &mut room[from..to]);
+    answer_parts::hex::decode(word, &mut room[from..to]);
     desk
 }
 

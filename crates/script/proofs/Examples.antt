@@ -6,7 +6,7 @@ use Rattle.rules.specs.Lists.{same, all}
 use Rattle.script_lines.specs.Text.{ascii}
 use Rattle.names.specs.Before.{before}
 use Rattle.tokens.specs.Words.{later-words}
-use Rattle.tokens.specs.Hex.{hex-value, is-bytes}
+use Rattle.answer_parts.specs.Hex.{hex-value, is-bytes}
 use Rattle.tokens.specs.Numbers.{digit, number-from, number, numbers, numbers-before-bytes}
 use Rattle.script_lines.specs.Forms.{
   takes,
