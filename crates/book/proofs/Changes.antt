@@ -22,8 +22,10 @@ use Rattle.rules.proofs.Lists.Tests.{by-cases, bind-given, given-inj}
 use Rattle.rules.proofs.Claim.Passed.{Passed, passed}
 use Rattle.walks.specs.Entries.{most-entries}
 use Rattle.views.proofs.Opening.{located}
-use Rattle.book.specs.Kept.{new-name, slots-of, reading-of, has-slot, has-row, takes, taken, deleted}
-use Rattle.book.specs.declared.order.Order.{Order}
+use Rattle.book_orders.specs.Orders.{slots-of}
+use Rattle.book_entries.specs.Tables.{new-name, has-slot, has-row}
+use Rattle.book.specs.Kept.{reading-of, takes, taken, deleted}
+use Rattle.book_orders.specs.declared.Order.{Order}
 use Rattle.book.specs.declared.Book.{Book}
 use Rattle.book.proofs.ReadBack.{short-order}
 

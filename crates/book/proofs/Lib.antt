@@ -1,4 +1,2 @@
-pub mod Orders
-pub mod Blocks
 pub mod ReadBack
 pub mod Changes

@@ -29,7 +29,7 @@ use Rattle.order_lists.specs.declared.Listed.the-variants.{Count, Refused as No
 use Rattle.views.proofs.Opening.{located}
 use Rattle.drafts.specs.Inner.Asked.{copies-equal}
 use Rattle.drafts.proofs.EqualCopies.{pairs-agree-if-equal}
-use Rattle.book.specs.Kept.{room}
+use Rattle.book_orders.specs.Orders.{room}
 
 -- ---- an order has no more slots than a table
 

@@ -1,51 +1,25 @@
 -- What the values of the book stand for in document 01's words, and the change that a book takes. Assumes nothing.
 use mathlib.Core.Bool.{Bool, true, false, cond, _&&_}
-use mathlib.Core.List.{List, [], _∷_, map}
+use mathlib.Core.List.{List, map}
 use Prim.Native.Nat.{ℕ}
-use lib.Dec.{leb, ltb}
-use lib.ListN.{take, length, replicate}
-use Rattle.rules.specs.Lists.{same, without}
-use Rattle.rules.specs.Bytes.{block-size}
+use lib.Dec.{leb}
+use lib.ListN.{length}
+use Rattle.rules.specs.Lists.{same}
 use Rattle.rules.specs.Answers.{Answer, refused, given}
 use Rattle.rules.specs.Table.{entry-count, entries}
 use Rattle.rules.specs.declared.Setting.{Setting}
-use Rattle.rules.specs.Readers.{slot-row, slot-there}
-use Rattle.rules.specs.Commands.{Command, enable, disable, rename, create, delete, repair, size-right, without-row}
+use Rattle.rules.specs.Readers.{slot-row}
+use Rattle.rules.specs.Commands.{Command, enable, disable, rename, create, delete, repair, without-row}
 use Rattle.rules.specs.Book.{Reading, lowered, changed}
 use Rattle.walks.specs.Entries.{most-entries}
-use Rattle.book.specs.declared.order.Order.{Order}
-use Rattle.book.specs.declared.order.Change.{Change}
-use Rattle.book.specs.declared.order.Change.the-variants.{Without, Lowered}
+use Rattle.book_orders.specs.Orders.{slots-of}
+use Rattle.book_entries.specs.Tables.{has-slot, has-row}
 use Rattle.book.specs.declared.Book.{Book}
 use Rattle.book.specs.declared.Answer.{Answer as Answered}
 use Rattle.book.specs.declared.Answer.the-variants.{Given, Refused}
 use Rattle.book.specs.declared.Read.{Read}
 
--- the new name of every rename and of every create, "SOLVER_2027_JUL"
-abbrev pub new-name : List ℕ
-new-name =
-    0x53 ∷ 0x4F ∷ 0x4C ∷ 0x56 ∷ 0x45 ∷ 0x52 ∷ 0x5F ∷ 0x32 ∷ 0x30 ∷ 0x32 ∷ 0x37 ∷ 0x5F ∷ 0x4A ∷ 0x55 ∷ 0x4C ∷ []
-
 -- ---- readings
-
--- the slots that a row of an order has room for
-abbrev pub room : ℕ
-room = 128
-
--- a row and a block with nothing in them yet
-unfoldable pub no-slots : List ℕ
-no-slots = replicate room 0
-
-unfoldable pub no-block : List ℕ
-no-block = replicate block-size 0
-
-unfoldable pub slots-of : Order → List ℕ
-slots-of o = take (o .count) (o .row)
-
--- what becomes of slots
-unfoldable pub kept : Change → List ℕ → List ℕ
-kept (Without k) slots = without (k .0) slots
-kept (Lowered g) slots = map (lowered (g .0)) slots
 
 unfoldable pub reading-of : Book → Reading
 reading-of b = record { table = b .table; boot = slots-of (b .order) }
@@ -66,14 +40,6 @@ same-answer (refused why) b = false
 same-answer (given a) b = same-reading a b
 
 -- ---- the change that a book takes
-
--- the table has such a slot, among no more entries than there is room for
-unfoldable pub has-slot : List ℕ → ℕ → Bool
-has-slot t k = leb (entry-count t) most-entries && slot-there (entries t) k
-
--- of so many entries a row is left, and the length of a new slot is right
-unfoldable pub has-row : ℕ → ℕ → Bool
-has-row n size = ltb n most-entries && size-right size
 
 -- the change can be made: the order has room for a slot more, the table has the slot or a row for one. So it is where the
 -- command started

@@ -1,8 +1,8 @@
 // Document 01's book for the programs that try the commands on real bytes: what a flash reads as, and the change that
 // each finished command makes.
+use book_orders::Change;
+use book_orders::Order;
 use commands::Command;
-use order::Change;
-use order::Order;
 use order_lists::Listed;
 use rules::Refusal;
 use rules::Setting;
@@ -12,10 +12,8 @@ ghost use mathlib.Core.Path.{_≡_};
 ghost use Rattle.rules.specs.Copies.{pairs-agree};
 ghost use Rattle.rules.specs.Book.{reading};
 ghost use Rattle.commands.specs.Begins.{command-of};
-ghost use Rattle.book.specs.Kept.{new-name, reading-of, read-as, same-reading, same-answer, taken, deleted};
-
-pub mod order;
-pub mod parts;
+ghost use Rattle.book_entries.specs.Tables.{new-name};
+ghost use Rattle.book.specs.Kept.{reading-of, read-as, same-reading, same-answer, taken, deleted};
 
 // A reading: the table copy read, and the boot order.
 pub struct Book {
@@ -38,15 +36,15 @@ pub struct Read {
 pub fn read_book(image: &[u8], setting: Setting) -> Read
     ensures { λ r. ⌜ read-as r ≡ reading setting (now (image .entry)) ⌝ }
 {
-    let mut row = order::no_slots();
+    let mut row = book_orders::no_slots();
     let listed = reading::order_list(image, setting, &mut row);
     match listed {
         Listed::Refused(why) => Read {
-            book: book_of(parts::no_block(), row, 0),
+            book: book_of(book_entries::no_block(), row, 0),
             answer: Answer::Refused(why),
         },
         Listed::Count(n) => {
-            let table = parts::block_of(reading::table_read(image, setting));
+            let table = book_entries::block_of(reading::table_read(image, setting));
             Read {
                 book: book_of(table, row, n),
                 answer: Answer::Given,
@@ -55,7 +53,7 @@ pub fn read_book(image: &[u8], setting: Setting) -> Read
     }
 }
 
-fn book_of(table: [u8; rules::BLOCK_SIZE], row: [u32; order::ROOM], count: usize) -> Book
+fn book_of(table: [u8; rules::BLOCK_SIZE], row: [u32; book_orders::ROOM], count: usize) -> Book
     ensures { λ r. ⌜ r ≡ record { table = table; order = record { row = row; count = count } } ⌝ }
 {
     Book {
@@ -86,7 +84,7 @@ pub fn same_book(a: Book, b: Book) -> bool
     let other = b.table;
     let first = a.order;
     let second = b.order;
-    parts::same_bytes(&one, &other) & order::same_order(first, second)
+    book_entries::same_bytes(&one, &other) & book_orders::same_order(first, second)
 }
 
 // The book after a finished command on a flash; every rename and every create is to the same name. A create looks at the
@@ -99,11 +97,17 @@ pub fn booked(book: Book, command: Command, image: &[u8], setting: Setting) -> B
     let table = book.table;
     let order = book.order;
     match command {
-        Command::Enable(slot) => with_order(table, order::with_first(order, slot)),
-        Command::Disable(slot) => with_order(table, order::changed(order, Change::Without(slot))),
-        Command::Rename(slot) => with_order(parts::renamed(table, slot), order),
+        Command::Enable(slot) => with_order(table, book_orders::with_first(order, slot)),
+        Command::Disable(slot) => with_order(
+            table,
+            book_orders::changed(order, Change::Without(slot)),
+        ),
+        Command::Rename(slot) => with_order(book_entries::renamed(table, slot), order),
         Command::Create(size) => {
-            with_order(parts::with_new_slot(table, image, setting, size), order)
+            with_order(
+                book_entries::with_new_slot(table, image, setting, size),
+                order,
+            )
         }
         Command::Delete(slot) => deleted(book, slot),
         Command::Repair => book,
@@ -116,12 +120,12 @@ fn deleted(book: Book, slot: SlotNo) -> Book
 {
     let table = book.table;
     let order = book.order;
-    if !parts::has_slot(table, slot) {
+    if !book_entries::has_slot(table, slot) {
         return book;
     }
     with_order(
-        parts::without_slot(table, slot),
-        order::changed(order, Change::Lowered(slot)),
+        book_entries::without_slot(table, slot),
+        book_orders::changed(order, Change::Lowered(slot)),
     )
 }
 

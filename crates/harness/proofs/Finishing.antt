@@ -29,7 +29,7 @@ use Rattle.commands.specs.declared.StartResult.{StartResult}
 use Rattle.commands.specs.declared.Command.{Command as Asked}
 use Rattle.commands.proofs.NameLent.{bytes-lent}
 use Rattle.drafts.specs.declared.Outcome.the-variants.{Started, Refused as Not-started}
-use Rattle.book.specs.Kept.{new-name}
+use Rattle.book_entries.specs.Tables.{new-name}
 use Rattle.harness.specs.Finished.{finished, left-finished, told, done-by, left-by, done-after, left-after, done-begun, left-begun}
 use Rattle.harness.specs.declared.Done.{Done}
 use Rattle.harness.specs.declared.Done.the-variants.{Refused}

@@ -11,7 +11,7 @@ use rules::Setting;
 ghost use mathlib.Core.Path.{_≡_};
 ghost use Rattle.rules.specs.Commands.{start};
 ghost use Rattle.commands.specs.Begins.{command-of, start-result};
-ghost use Rattle.book.specs.Kept.{new-name};
+ghost use Rattle.book_entries.specs.Tables.{new-name};
 ghost use Rattle.harness.specs.Finished.{finished, left-finished, done-by, left-by, done-begun, left-begun};
 
 // How many steps were done, or a refusal.
@@ -26,7 +26,7 @@ pub fn begin(image: &[u8], setting: Setting, command: Command) -> StartResult
         r ≡ start-result setting (now (image .entry)) (command-of command new-name)
         ⌝ }
 {
-    let name = book::parts::new_name();
+    let name = book_entries::new_name();
     commands::start(image, setting, command, &name)
 }
 

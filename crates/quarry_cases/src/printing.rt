@@ -1,7 +1,7 @@
 // What the cases print.
 use book::Answer;
-use book::order::Order;
-use book::order::ROOM;
+use book_orders::Order;
+use book_orders::ROOM;
 use commands::Command;
 use harness::Done;
 use libc::STDOUT_FILENO;

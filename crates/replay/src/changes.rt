@@ -5,7 +5,7 @@ use fields::bounds::min;
 use fields::bounds::part_of;
 use fields::stores;
 use rules::Setting;
-use script::Change;
+use script_lines::Change;
 ghost use Prim.Native.Nat.{_+_, _≤_, _<_};
 ghost use lib.ListN.{length};
 
@@ -55,7 +55,7 @@ fn put(desk: Desk, room: &mut [u8], at: usize, word: &[u8]) -> Desk {
     }
     let from = part.from;
     let to = part.to;
-    tokens::hex::decode(word, &mut room[from..to]);
+    answer_parts::hex::decode(word, &mut room[from..to]);
     desk
 }
 

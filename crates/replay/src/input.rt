@@ -7,7 +7,7 @@ use super::starts;
 use super::steps;
 use fields::bounds::min;
 use libc::STDIN_FILENO;
-use script::Line;
+use script_lines::Line;
 
 // Nothing says that the input ends, so turns are counted down from a number that no run uses up.
 pub fn replay(room: &mut [u8], line: &mut [u8]) {

@@ -1,4 +1,5 @@
 // Answers on standard output, each a line, but for the listing.
+use answer_parts::put_number;
 use fields::bounds::min;
 use libc::STDOUT_FILENO;
 use rules::EntryNo;
@@ -7,7 +8,6 @@ use rules::Refusal;
 use rules::Setting;
 use rules::SlotInfo;
 use rules::SlotNo;
-use tokens::answers::put_number;
 
 // The front of a buffer.
 fn write_front(out: &[u8], end: usize) {
@@ -63,7 +63,7 @@ fn put_fault(out: &mut [u8], at: usize, fault: Fault) -> usize {
 pub fn print_order(row: &[u32]) {
     let mut out = io::buffer();
     let end = text::put_bytes(&mut out, 0, b"order");
-    let after = tokens::answers::put_numbers(&mut out, end, row);
+    let after = answer_parts::put_numbers(&mut out, end, row);
     write_line(&mut out, after);
 }
 
@@ -81,7 +81,7 @@ pub fn print_slot(slot: SlotNo, info: SlotInfo, name: &[u8]) {
     end = put_number(&mut out, end, slot.0 as u64);
     end = put_number(&mut out, end, row_of(info.entry));
     end = text::put_byte(&mut out, end, b' ');
-    end = tokens::hex::put(&mut out, end, name);
+    end = answer_parts::hex::put(&mut out, end, name);
     end = put_number(&mut out, end, info.start);
     end = put_number(&mut out, end, info.size);
     end = put_number(&mut out, end, info.flags);
@@ -125,6 +125,6 @@ fn write_hex(bytes: &[u8]) {
 
 fn write_piece(bytes: &[u8]) {
     let mut out = io::buffer();
-    let end = tokens::hex::put(&mut out, 0, bytes);
+    let end = answer_parts::hex::put(&mut out, 0, bytes);
     write_front(&out, end);
 }

@@ -7,7 +7,7 @@ use infos::Known;
 use order_lists::Listed;
 use rules::Setting;
 use rules::SlotNo;
-use script::Question;
+use script_lines::Question;
 
 pub fn ask(desk: Desk, room: &[u8], asked: Question) -> bool {
     let setting = desk.setting;
@@ -75,7 +75,7 @@ fn tell_bytes(image: &[u8], at: usize, n: usize) -> bool {
 }
 
 fn tell_sum(image: &[u8]) -> bool {
-    printing::print_number(b"sum", tokens::sum::fnv1a(image));
+    printing::print_number(b"sum", answer_parts::sum::fnv1a(image));
     true
 }
 
@@ -90,6 +90,6 @@ fn tell_dump(image: &[u8], a: usize, m: usize, b: usize, n: usize) -> bool {
     let other_from = other.from;
     let other_to = other.to;
     let dump = dumps::standing_dump(&image[one_from..one_to], &image[other_from..other_to]);
-    printing::print_dump(dump.len(), tokens::sum::fnv1a(dump));
+    printing::print_dump(dump.len(), answer_parts::sum::fnv1a(dump));
     true
 }

@@ -38,6 +38,6 @@ pub fn start_named(desk: Desk, room: &[u8], command: Command, word: &[u8]) -> De
 
 fn start_with(desk: Desk, room: &[u8], command: Command, word: &[u8], name: &mut [u8]) -> Desk {
     let n = min(word.len() / 2, name.len());
-    tokens::hex::decode(word, &mut name[0..n]);
+    answer_parts::hex::decode(word, &mut name[0..n]);
     start(desk, room, command, &name[0..n])
 }

@@ -11,7 +11,7 @@ use jobs::Job;
 use jobs::Next;
 use jobs::Ran;
 use rules::Step;
-use script::Steps;
+use script_lines::Steps;
 use tokens::words;
 
 pub fn carry_out(desk: Desk, room: &mut [u8], asked: Steps, line: &[u8]) -> Desk {

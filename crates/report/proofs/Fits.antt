@@ -31,7 +31,8 @@ use Rattle.views.proofs.Opening.{located}
 use Rattle.text.specs.Put.{Put}
 use Rattle.text.proofs.Puts.{put-whole}
 use Rattle.text.specs.Shown.{digits, decimal, shown}
-use Rattle.report.specs.Listing.{listing-setting, header, refusal, told, info-text, slot-line, numbered, places-header, kind-word, place-line, judged-line, dead-part, parts, listing-by, listing-for, listing}
+use Rattle.dead_places.specs.DeadLines.{numbered, places-header, kind-word, place-line, judged-line, dead-part}
+use Rattle.report.specs.Listing.{listing-setting, header, refusal, told, info-text, slot-line, parts, listing-by, listing-for, listing}
 
 -- ---- the parts of a line
 

@@ -1,5 +1,3 @@
-pub mod Examples
 pub mod Fits
-pub mod Lines
-pub mod DeadPlaces
+pub mod Inside
 pub mod Read

@@ -1,6 +1,4 @@
 // The listing of an image, put into a lent buffer: its boot order, then its dead places.
-mod dead; // the dead places
-
 use infos::Known;
 use rules::Setting;
 use rules::SlotNo;
@@ -11,7 +9,8 @@ ghost use Prim.Native.Nat.{_≤_};
 ghost use lib.ListN.{length, take};
 ghost use Rattle.views.specs.Inner.Located.{Located};
 ghost use Rattle.text.specs.Put.{Put};
-ghost use Rattle.report.specs.Listing.{listing, listing-for, parts, refusal, numbered, slot-line, info-text};
+ghost use Rattle.dead_places.specs.DeadLines.{numbered};
+ghost use Rattle.report.specs.Listing.{listing, listing-for, parts, refusal, slot-line, info-text};
 
 // What the listing program has fixed. More bytes than the limit are refused.
 const GRANULE: usize = 4096;
@@ -66,7 +65,7 @@ fn put_parts(image: &[u8], setting: Setting, v: View, out: &mut [u8]) -> usize
     let count = boot_order::write_order(t, rows, p, places, &mut row);
     let mut end = text::put_bytes(out, 0, b"order slot name start length\n");
     end = put_lines(image, setting, &row, count, out, end);
-    dead::put_dead(t, rows, p, places, out, end)
+    dead_places::put_dead(t, rows, p, places, out, end)
 }
 
 fn put_refusal(out: &mut [u8], number: u8) -> usize

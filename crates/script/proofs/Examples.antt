@@ -3,12 +3,12 @@ use mathlib.Core.Path.{_≡_, refl}
 use mathlib.Core.List.{List, [], _∷_, map}
 use Prim.Native.String.{String}
 use Rattle.rules.specs.Lists.{same, all}
-use Rattle.script.specs.Text.{ascii}
+use Rattle.script_lines.specs.Text.{ascii}
 use Rattle.names.specs.Before.{before}
 use Rattle.tokens.specs.Words.{later-words}
-use Rattle.tokens.specs.Hex.{hex-value, is-bytes}
+use Rattle.answer_parts.specs.Hex.{hex-value, is-bytes}
 use Rattle.tokens.specs.Numbers.{digit, number-from, number, numbers, numbers-before-bytes}
-use Rattle.script.specs.Lines.{
+use Rattle.script_lines.specs.Forms.{
   takes,
   takes-slot,
   takes-ranges,
@@ -17,14 +17,13 @@ use Rattle.script.specs.Lines.{
   question-forms,
   command-forms,
   steps-forms,
-  said,
-  line-of,
 }
-use Rattle.script.specs.declared.Line.the-variants.{Nothing, Change, Question, Command, Named, Steps, Error}
-use Rattle.script.specs.declared.Change.the-variants.{Image, Put}
-use Rattle.script.specs.declared.Question.the-variants.{Order, Listing}
+use Rattle.script.specs.Lines.{said, line-of}
+use Rattle.script_lines.specs.declared.Line.the-variants.{Nothing, Change, Question, Command, Named, Steps, Error}
+use Rattle.script_lines.specs.declared.Change.the-variants.{Image, Put}
+use Rattle.script_lines.specs.declared.Question.the-variants.{Order, Listing}
 use Rattle.commands.specs.declared.Command.the-variants.{Rename}
-use Rattle.script.specs.declared.Steps.the-variants.{Cut, Torn}
+use Rattle.script_lines.specs.declared.Steps.the-variants.{Cut, Torn}
 
 abbrev pub lines : List String
 lines =

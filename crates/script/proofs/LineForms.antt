@@ -8,7 +8,7 @@ use borrow.Author.Tests.{eq-eqb, ne-eqb}
 use Rattle.tokens.specs.Words.{first-word, later-words}
 use Rattle.tokens.specs.Numbers.{numbers, numbers-before-bytes}
 use Rattle.script.specs.Lines.{said, line-of}
-use Rattle.script.specs.declared.Line.the-variants.{Nothing}
+use Rattle.script_lines.specs.declared.Line.the-variants.{Nothing}
 
 pub empty-line : (line : List ℕ) → length line ≡ 0 → Nothing ≡ line-of line
 unfolding line-of

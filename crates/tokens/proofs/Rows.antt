@@ -9,7 +9,7 @@ use lib.ListN.{length, take, drop, length-append}
 use lib.Seq.{length-take-le, take-length, take-take, take-at, getD-append-seam}
 use Rattle.rules.specs.Lists.{all}
 use Rattle.tokens.specs.Words.{later-words, Last-word-begins}
-use Rattle.tokens.specs.Hex.{is-bytes}
+use Rattle.answer_parts.specs.Hex.{is-bytes}
 use Rattle.tokens.specs.Numbers.{number, no-numbers, numbers, numbers-before-bytes}
 use Rattle.tokens.specs.declared.numbers.Number.{Number}
 use Rattle.tokens.specs.declared.numbers.Row.{Row}

@@ -5,7 +5,7 @@ use Prim.Native.Nat.{ℕ, _+_, _-_, _*_, _^_}
 use lib.Dec.{leb, ltb}
 use lib.ListN.{length, getD, take}
 use Rattle.rules.specs.Lists.{all}
-use Rattle.tokens.specs.Hex.{is-bytes}
+use Rattle.answer_parts.specs.Hex.{is-bytes}
 use Rattle.tokens.specs.declared.numbers.Number.{Number}
 use Rattle.tokens.specs.declared.numbers.Row.{Row}
 

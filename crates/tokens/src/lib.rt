@@ -1,9 +1,6 @@
-// The words of a line, and the parts of an answer, put into a lent buffer: numbers, bytes in hexadecimal, a sum of bytes.
+// The words of a line, and the numbers in them.
 pub mod words; // where words begin and end
 pub mod numbers; // decimal numbers in them
-pub mod hex; // bytes as pairs of hexadecimal digits
-pub mod answers; // parts of an answer
-pub mod sum; // a sum of bytes
 
 ghost use mathlib.Core.Path.{_≡_};
 ghost use Rattle.tokens.specs.Words.{last-word};

@@ -1,6 +1,6 @@
 // Decimal numbers in the words of a line.
-use super::hex;
 use super::words::last_word_start;
+use answer_parts::hex;
 ghost use mathlib.Core.Path.{_≡_};
 ghost use mathlib.Core.List.{List, _∷_};
 ghost use Prim.Native.Nat.{ℕ, _≤_, _<_};

@@ -1,6 +1,6 @@
 -- `booked` makes each command's change. Assumes nothing.
 use Rattle.commands.specs.Begins.{command-of}
-use Rattle.book.specs.Kept.{kept}
+use Rattle.book_orders.specs.Orders.{kept}
 use Rattle.book.proofs.Changes.{enabled, disabled, with-name, with-slot, without-slot, repaired}
 use borrow.Author.Needs.{needs}
 use Rattle.book.proofs.booked.Statement.{statement}

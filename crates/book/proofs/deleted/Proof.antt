@@ -2,7 +2,9 @@
 use mathlib.Core.Path.{sym}
 use borrow.Author.Needs.{needs}
 use Rattle.walks.proofs.Joined.{failed, passed}
-use Rattle.book.specs.Kept.{reading-of, has-slot, kept, deleted}
+use Rattle.book_orders.specs.Orders.{kept}
+use Rattle.book_entries.specs.Tables.{has-slot}
+use Rattle.book.specs.Kept.{reading-of, deleted}
 use Rattle.book.proofs.deleted.Statement.{statement}
 use Rattle.book.proofs.deleted.Tie as tie
 

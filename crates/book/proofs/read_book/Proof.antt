@@ -1,8 +1,9 @@
 -- `read_book` answers the reading of the flash, refusals included. Assumes nothing.
 use mathlib.Core.Path.{ap, _∙_}
 use lib.ListN.{length}
-use Rattle.book.specs.Kept.{slots-of, reading-of, answer-of, read-as}
-use Rattle.book.proofs.Orders.{room-for}
+use Rattle.book_orders.specs.Orders.{slots-of}
+use Rattle.book.specs.Kept.{reading-of, answer-of, read-as}
+use Rattle.book_orders.proofs.Orders.{room-for}
 use Rattle.book.proofs.ReadBack.{not-read, whole-table, was-read}
 use borrow.Author.Needs.{needs}
 use Rattle.book.proofs.read_book.Statement.{statement}

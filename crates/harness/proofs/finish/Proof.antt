@@ -2,7 +2,7 @@
 use mathlib.Core.Path.{_∙_}
 use Rattle.commands.proofs.StartLists.{result-begins}
 use Rattle.commands.specs.Begins.{command-of}
-use Rattle.book.specs.Kept.{new-name}
+use Rattle.book_entries.specs.Tables.{new-name}
 use Rattle.harness.proofs.Finishing.{names-of-bytes, finishes}
 use borrow.Author.Needs.{needs}
 use Rattle.harness.proofs.finish.Statement.{statement}

@@ -1,7 +1,7 @@
 -- `listing_for` puts the line of a refusal, or the two parts by where things are. Assumes nothing.
 use Rattle.views.proofs.Opening.{was-viewed, was-refused, opened}
 use Rattle.report.specs.Listing.{listing-by, listing-for}
-use Rattle.report.proofs.Lines.{with-inside}
+use Rattle.report.proofs.Inside.{with-inside}
 use borrow.Author.Needs.{needs}
 use Rattle.report.proofs.listing_for.Statement.{statement}
 use Rattle.report.proofs.listing_for.Tie as tie

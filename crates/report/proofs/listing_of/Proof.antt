@@ -1,7 +1,7 @@
 -- `listing_of` refuses an image that is too long, and else puts the listing for the fixed setting. Assumes nothing.
 use borrow.Author.Tests.{lt-leb, le-leb}
 use Rattle.report.specs.Listing.{listing-setting, listing}
-use Rattle.report.proofs.Lines.{with-inside}
+use Rattle.report.proofs.Inside.{with-inside}
 use borrow.Author.Needs.{needs}
 use Rattle.report.proofs.listing_of.Statement.{statement}
 use Rattle.report.proofs.listing_of.Tie as tie

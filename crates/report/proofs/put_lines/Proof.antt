@@ -6,8 +6,9 @@ use native.Mathlib.Omega.{arith}
 use native.Mathlib.Nat.{add-comm}
 use Rattle.text.specs.Put.{Put}
 use Rattle.text.proofs.Puts.{put-nothing, keeps-length}
-use Rattle.report.specs.Listing.{slot-line, numbered}
-use Rattle.report.proofs.Lines.{one-more-text}
+use Rattle.dead_places.specs.DeadLines.{numbered}
+use Rattle.dead_places.proofs.Lines.{one-more-text}
+use Rattle.report.specs.Listing.{slot-line}
 use borrow.Author.Needs.{needs}
 use Rattle.report.proofs.put_lines.Statement.{statement}
 use Rattle.report.proofs.put_lines.Tie as tie

@@ -1,0 +1,4 @@
+pub mod HexDigits
+pub mod HexRoundTrip
+pub mod Sums
+pub mod Texts

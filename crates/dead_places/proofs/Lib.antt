@@ -1,0 +1,3 @@
+pub mod DeadPlaces
+pub mod Examples
+pub mod Lines
