@@ -1,7 +1,7 @@
 // A flash looked into: where things are, which copies stand and agree, its entries, its places.
+use conditions::Inspected;
 use infos::Known;
-use inspect::Holding;
-use inspect::Inspected;
+use place_infos::Holding;
 use rules::EntryNo;
 use rules::PlaceNo;
 use rules::Setting;
@@ -12,7 +12,7 @@ ghost use lib.ListN.{length};
 ghost use Rattle.rules.specs.Numbers.{setting};
 ghost use Rattle.rules.specs.Copies.{view};
 ghost use Rattle.rules.specs.Readers.{row-after, table-faults};
-ghost use Rattle.inspect.specs.Condition.{condition};
+ghost use Rattle.conditions.specs.Condition.{condition};
 ghost use Rattle.inspect.specs.Entries.{entry-total};
 ghost use Rattle.inspect.specs.Places.{place-total, place-at};
 ghost use Rattle.codes.specs.Answered.{number, kept};
@@ -114,7 +114,7 @@ pub extern "C" fn delunkpawi_copies(
         spt0: spt0,
         spt1: spt1,
     };
-    let inspected = inspect::four_blocks::condition_of(image, setting);
+    let inspected = conditions::condition_of(image, setting);
     match inspected {
         Inspected::Refused(why) => why.number,
         Inspected::Is(k) => {
