@@ -1,7 +1,7 @@
 // A judgement of a place as two numbers, and a test as one.
 use super::Bits;
 use super::PlaceCode;
-use inspect::Condition;
+use conditions::Condition;
 use rules::Place;
 ghost use mathlib.Core.Path.{_≡_};
 ghost use Rattle.codes.specs.Judged.{bit, place-kind, place-slot};

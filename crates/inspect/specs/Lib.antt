@@ -1,4 +1,3 @@
-pub mod Condition
 pub mod Totals
 pub mod Entries
 pub mod Places

@@ -3,7 +3,7 @@ ghost use lib.ListN.{length};
 ghost use Rattle.rules.specs.Numbers.{setting};
 ghost use Rattle.rules.specs.Copies.{view};
 ghost use Rattle.rules.specs.Readers.{table-faults};
-ghost use Rattle.inspect.specs.Condition.{condition};
+ghost use Rattle.conditions.specs.Condition.{condition};
 ghost use Rattle.inspect.specs.Entries.{entry-total};
 ghost use Rattle.inspect.specs.Places.{place-total, place-at};
 ghost use Rattle.reads_for_c.specs.Inspected.{named-entry};

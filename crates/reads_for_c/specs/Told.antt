@@ -9,8 +9,8 @@ use Rattle.rules.specs.Readers.{row-after}
 use Rattle.rules.specs.declared.View.{View}
 use Rattle.rules.specs.declared.SlotInfo.{SlotInfo}
 use Rattle.rules.specs.declared.TableFaults.{TableFaults}
-use Rattle.inspect.specs.declared.Condition.{Condition}
-use Rattle.inspect.specs.declared.Held.{Held}
+use Rattle.conditions.specs.declared.Condition.{Condition}
+use Rattle.place_infos.specs.declared.Held.{Held}
 use Rattle.codes.specs.Answered.{number, kept}
 use Rattle.codes.specs.Judged.{bit, place-kind, place-slot}
 use Rattle.reads_for_c.specs.Inspected.{NamedEntry, name-of}

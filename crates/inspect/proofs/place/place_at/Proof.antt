@@ -3,7 +3,8 @@ use mathlib.Core.Path.{refl, _∙_}
 use borrow.Author.Needs.{needs}
 use Rattle.rules.specs.Answers.{_>>=_}
 use Rattle.views.proofs.Opening.{was-viewed, was-refused, opened, has-entries, has-pointers}
-use Rattle.inspect.specs.Places.{place-at, holding}
+use Rattle.place_infos.specs.Places.{holding}
+use Rattle.inspect.specs.Places.{place-at}
 use Rattle.inspect.proofs.place.place_at.Statement.{statement}
 use Rattle.inspect.proofs.place.place_at.Tie as tie
 

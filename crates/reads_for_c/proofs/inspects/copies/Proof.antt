@@ -1,7 +1,7 @@
 -- `copies` answers with which copies stand and which pairs agree. Assumes nothing.
 use mathlib.Core.Path.{sym, ap, _∙_}
 use borrow.Author.Needs.{needs}
-use Rattle.inspect.specs.Condition.{inspected}
+use Rattle.conditions.specs.Condition.{inspected}
 use Rattle.codes.specs.Judged.{bit}
 use Rattle.codes.proofs.Numbered.{number-refused, kept-refused, number-given, kept-given}
 use Rattle.reads_for_c.proofs.inspects.copies.Statement.{statement}

@@ -1,7 +1,7 @@
 -- `place` answers with what a place holds. Assumes nothing.
 use mathlib.Core.Path.{sym, ap, _∙_}
 use borrow.Author.Needs.{needs}
-use Rattle.inspect.specs.Places.{holding}
+use Rattle.place_infos.specs.Places.{holding}
 use Rattle.codes.specs.Judged.{place-kind, place-slot}
 use Rattle.codes.proofs.Numbered.{number-refused, kept-refused, number-given, kept-given}
 use Rattle.reads_for_c.proofs.inspects.place.Statement.{statement}

@@ -1,4 +1,4 @@
--- `inspect::place::held_in` reads and judges a place, or refuses 93. Assumes nothing.
+-- `place_infos::held_in` reads and judges a place, or refuses 93. Assumes nothing.
 use Prim.Native.Nat.{_<_}
 use native.Mathlib.Omega.{arith}
 use borrow.Author.Tests.{lt-ltb, le-ltb}
@@ -7,10 +7,10 @@ use Rattle.rules.specs.Answers.{unless}
 use Rattle.rules.specs.Pointers.{place-count}
 use Rattle.slots.specs.Inner.RowsOf.{rows-of}
 use Rattle.places.proofs.PlacesOf.{count-is}
-use Rattle.inspect.specs.Places.{held, held-in, holding}
-use Rattle.inspect.proofs.Numbered.{value-found}
-use Rattle.inspect.proofs.place.held_in.Statement.{statement}
-use Rattle.inspect.proofs.place.held_in.Tie as tie
+use Rattle.place_infos.specs.Places.{held, held-in, holding}
+use Rattle.place_infos.proofs.Numbered.{value-found}
+use Rattle.place_infos.proofs.held_in.Statement.{statement}
+use Rattle.place_infos.proofs.held_in.Tie as tie
 
 returns : tie.Need-returns
 unfolding holding held-in unless

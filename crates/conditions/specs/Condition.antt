@@ -9,9 +9,9 @@ use Rattle.rules.specs.Table.{table-stands}
 use Rattle.rules.specs.Pointers.{pointers-stand}
 use Rattle.rules.specs.Copies.{view, tables-agree, pointers-agree}
 use Rattle.rules.specs.declared.View.{View}
-use Rattle.inspect.specs.declared.Condition.{Condition}
-use Rattle.inspect.specs.declared.Inspected.{Inspected}
-use Rattle.inspect.specs.declared.Inspected.the-variants.{Is, Refused}
+use Rattle.conditions.specs.declared.Condition.{Condition}
+use Rattle.conditions.specs.declared.Inspected.{Inspected}
+use Rattle.conditions.specs.declared.Inspected.the-variants.{Is, Refused}
 
 -- by where the blocks are
 unfoldable pub condition-by : Setting → List ℕ → View → Condition

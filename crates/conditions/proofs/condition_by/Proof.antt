@@ -1,10 +1,10 @@
--- `inspect::four_blocks::condition_by` judges the four blocks and compares the pairs. Assumes nothing.
+-- `conditions::condition_by` judges the four blocks and compares the pairs. Assumes nothing.
 use Rattle.rules.specs.Copies.{tables-agree, pointers-agree, pair-agrees}
 use Rattle.views.proofs.Seen.{seen}
 use Rattle.views.proofs.Opening.{located, granule-positive}
-use Rattle.inspect.specs.Condition.{condition-by}
-use Rattle.inspect.proofs.four_blocks.condition_by.Statement.{statement}
-use Rattle.inspect.proofs.four_blocks.condition_by.Tie as tie
+use Rattle.conditions.specs.Condition.{condition-by}
+use Rattle.conditions.proofs.condition_by.Statement.{statement}
+use Rattle.conditions.proofs.condition_by.Tie as tie
 
 table-stands-requires : tie.Need-table-stands-requires
 table-stands-requires c κs =

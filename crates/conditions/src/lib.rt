@@ -1,13 +1,28 @@
-// Which copies stand, and which pairs agree.
-use super::Condition;
-use super::Inspected;
+// Which copies of a flash stand, and which pairs agree.
+use rules::Refusal;
 use rules::Setting;
 use rules::View;
 use views::Viewed;
 ghost use mathlib.Core.Path.{_≡_};
 ghost use Rattle.rules.specs.Answers.{given};
 ghost use Rattle.rules.specs.Copies.{view};
-ghost use Rattle.inspect.specs.Condition.{condition-by, condition, inspected};
+ghost use Rattle.conditions.specs.Condition.{condition-by, condition, inspected};
+
+// For each of the four blocks whether it stands, for each pair whether it agrees.
+pub struct Condition {
+    pub spt0: bool,
+    pub spt1: bool,
+    pub cpb0: bool,
+    pub cpb1: bool,
+    pub tables: bool,
+    pub pointers: bool,
+}
+
+// The condition of the four blocks, or a refusal.
+pub enum Inspected {
+    Is(Condition),
+    Refused(Refusal),
+}
 
 // Refusals 1, 2, 3, 50, 51 and 5, or the condition of the four blocks.
 pub fn condition_of(image: &[u8], setting: Setting) -> Inspected

@@ -1,10 +1,10 @@
--- `inspect::four_blocks::condition_of` tells the condition by the view, or refuses as the view does. Assumes nothing.
+-- `conditions::condition_of` tells the condition by the view, or refuses as the view does. Assumes nothing.
 use Rattle.rules.specs.Answers.{_>>=_}
 use Rattle.views.proofs.Opening.{was-viewed, was-refused}
-use Rattle.inspect.specs.Condition.{condition-by, condition, inspected}
+use Rattle.conditions.specs.Condition.{condition-by, condition, inspected}
 use borrow.Author.Needs.{needs}
-use Rattle.inspect.proofs.four_blocks.condition_of.Statement.{statement}
-use Rattle.inspect.proofs.four_blocks.condition_of.Tie as tie
+use Rattle.conditions.proofs.condition_of.Statement.{statement}
+use Rattle.conditions.proofs.condition_of.Tie as tie
 
 returns : tie.Need-returns
 unfolding inspected condition _>>=_
