@@ -18,6 +18,10 @@ there : (c : tie.After-slot-row)
     slot-there (rows (a .n) (a .t .now)) (a .slot .0) ≡ true
 there c = passed (c .before .before .slot-there .ensures) (c .before .if1 .left)
 
+returns : tie.Need-returns
+unfolding name-in
+returns c = rw (failed (c .before .before .slot-there .ensures) (c .before .if1 .taken))
+
 entry-name-requires : tie.Need-entry-name-requires
 entry-name-requires c κs =
     let a = c .before .before .before .before .args in (
@@ -48,7 +52,7 @@ name-in-spec =
     (tie.spec
     (λ c κs. search needs)
     (λ c. search needs)
-    (λ c. unfold name-in in rw (failed (c .before .before .slot-there .ensures) (c .before .if1 .taken)))
+    returns
     (λ c κs. search needs)
     entry-name-requires
     (λ c κs. search needs)
