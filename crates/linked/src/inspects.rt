@@ -1,4 +1,5 @@
 // A flash looked into: where things are, which copies stand and agree, its entries, its places.
+use rules::Setting;
 ghost use lib.ListN.{length};
 ghost use Rattle.rules.specs.Numbers.{setting};
 ghost use Rattle.rules.specs.Copies.{view};
@@ -29,7 +30,12 @@ pub extern "C" fn delunkpawi_view(
         (now (pointers .entry)) (now (pointers .exit))
         ⌝ }
 {
-    reads_for_c::inspects::view(image, granule, spt0, spt1, cpb0, cpb1, table, pointers)
+    let setting = Setting {
+        granule: granule,
+        spt0: spt0,
+        spt1: spt1,
+    };
+    reads_for_c::inspects::view(image, setting, cpb0, cpb1, table, pointers)
 }
 
 // For each of the four blocks 1 if it stands, for each pair 1 if it agrees, else 0.
@@ -56,11 +62,14 @@ pub extern "C" fn delunkpawi_copies(
         (now (pointers .entry)) (now (pointers .exit))
         ⌝ }
 {
+    let setting = Setting {
+        granule: granule,
+        spt0: spt0,
+        spt1: spt1,
+    };
     reads_for_c::inspects::copies(
         image,
-        granule,
-        spt0,
-        spt1,
+        setting,
         table0,
         table1,
         pointers0,
@@ -91,7 +100,12 @@ pub extern "C" fn delunkpawi_table_faults(
         (now (entry1 .entry)) (now (entry1 .exit))
         ⌝ }
 {
-    reads_for_c::inspects::table_faults(image, granule, spt0, spt1, rule0, entry0, rule1, entry1)
+    let setting = Setting {
+        granule: granule,
+        spt0: spt0,
+        spt1: spt1,
+    };
+    reads_for_c::inspects::table_faults(image, setting, rule0, entry0, rule1, entry1)
 }
 
 // How many entries the table read has.
@@ -107,7 +121,12 @@ pub extern "C" fn delunkpawi_entry_count(
         CountTold (entry-total (setting granule spt0 spt1) (now (image .entry))) r (now (count .entry)) (now (count .exit))
         ⌝ }
 {
-    reads_for_c::inspects::entry_count(image, granule, spt0, spt1, count)
+    let setting = Setting {
+        granule: granule,
+        spt0: spt0,
+        spt1: spt1,
+    };
+    reads_for_c::inspects::entry_count(image, setting, count)
 }
 
 // The name of an entry up to its zero into the front of the lent bytes, its length, and the entry's start, length and
@@ -134,18 +153,12 @@ pub extern "C" fn delunkpawi_entry(
         (now (flags .entry)) (now (flags .exit))
         ⌝ }
 {
-    reads_for_c::inspects::entry(
-        image,
-        granule,
-        spt0,
-        spt1,
-        entry,
-        name,
-        count,
-        start,
-        size,
-        flags,
-    )
+    let setting = Setting {
+        granule: granule,
+        spt0: spt0,
+        spt1: spt1,
+    };
+    reads_for_c::inspects::entry(image, setting, entry, name, count, start, size, flags)
 }
 
 // How many places the pointer block read has.
@@ -161,7 +174,12 @@ pub extern "C" fn delunkpawi_place_count(
         CountTold (place-total (setting granule spt0 spt1) (now (image .entry))) r (now (count .entry)) (now (count .exit))
         ⌝ }
 {
-    reads_for_c::inspects::place_count(image, granule, spt0, spt1, count)
+    let setting = Setting {
+        granule: granule,
+        spt0: spt0,
+        spt1: spt1,
+    };
+    reads_for_c::inspects::place_count(image, setting, count)
 }
 
 // What a place holds: 0 for erased, 1 for live with its slot, 2 for spent, 3 for part-written, 4 for stray; and its value.
@@ -183,5 +201,10 @@ pub extern "C" fn delunkpawi_place(
         (now (value .entry)) (now (value .exit))
         ⌝ }
 {
-    reads_for_c::inspects::place(image, granule, spt0, spt1, place, kind, slot, value)
+    let setting = Setting {
+        granule: granule,
+        spt0: spt0,
+        spt1: spt1,
+    };
+    reads_for_c::inspects::place(image, setting, place, kind, slot, value)
 }

@@ -1,4 +1,5 @@
 // A flash read: its boot order, its slots, what is known of one.
+use rules::Setting;
 ghost use lib.ListN.{length};
 ghost use Rattle.rules.specs.Numbers.{setting};
 ghost use Rattle.rules.specs.Readers.{order-list, slot-count, slot-info};
@@ -20,7 +21,12 @@ pub extern "C" fn delunkpawi_order(
         (now (row .entry)) (now (row .exit)) (now (count .entry)) (now (count .exit))
         ⌝ }
 {
-    reads_for_c::reads::order(image, granule, spt0, spt1, row, count)
+    let setting = Setting {
+        granule: granule,
+        spt0: spt0,
+        spt1: spt1,
+    };
+    reads_for_c::reads::order(image, setting, row, count)
 }
 
 // How many application slots there are.
@@ -36,7 +42,12 @@ pub extern "C" fn delunkpawi_slot_count(
         CountTold (slot-count (setting granule spt0 spt1) (now (image .entry))) r (now (count .entry)) (now (count .exit))
         ⌝ }
 {
-    reads_for_c::reads::slot_count(image, granule, spt0, spt1, count)
+    let setting = Setting {
+        granule: granule,
+        spt0: spt0,
+        spt1: spt1,
+    };
+    reads_for_c::reads::slot_count(image, setting, count)
 }
 
 // The entry number, start, length and flags of a slot.
@@ -60,7 +71,12 @@ pub extern "C" fn delunkpawi_slot_facts(
         (now (flags .entry)) (now (flags .exit))
         ⌝ }
 {
-    reads_for_c::reads::slot_facts(image, granule, spt0, spt1, slot, entry, start, size, flags)
+    let setting = Setting {
+        granule: granule,
+        spt0: spt0,
+        spt1: spt1,
+    };
+    reads_for_c::reads::slot_facts(image, setting, slot, entry, start, size, flags)
 }
 
 // The name of a slot up to its zero into the front of the lent bytes, and its length; 91 where they are too few.
@@ -79,5 +95,10 @@ pub extern "C" fn delunkpawi_slot_name(
         (now (name .entry)) (now (name .exit)) (now (count .entry)) (now (count .exit))
         ⌝ }
 {
-    reads_for_c::reads::slot_name(image, granule, spt0, spt1, slot, name, count)
+    let setting = Setting {
+        granule: granule,
+        spt0: spt0,
+        spt1: spt1,
+    };
+    reads_for_c::reads::slot_name(image, setting, slot, name, count)
 }

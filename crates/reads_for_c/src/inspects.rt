@@ -8,7 +8,6 @@ use rules::Setting;
 use views::Faults;
 use views::Viewed;
 ghost use lib.ListN.{length};
-ghost use Rattle.rules.specs.Numbers.{setting};
 ghost use Rattle.rules.specs.Copies.{view};
 ghost use Rattle.rules.specs.Readers.{table-faults};
 ghost use Rattle.conditions.specs.Condition.{condition};
@@ -20,27 +19,20 @@ ghost use Rattle.reads_for_c.specs.Told.{CountTold, ViewTold, CopiesTold
 // Where the pointer blocks are, and which copies of table and pointer block are read.
 pub fn view(
     image: &[u8],
-    granule: usize,
-    spt0: usize,
-    spt1: usize,
+    setting: Setting,
     cpb0: &mut usize,
     cpb1: &mut usize,
     table: &mut usize,
     pointers: &mut usize,
 ) -> u8
     ensures { λ r. ⌜
-        ViewTold (view (setting granule spt0 spt1) (now (image .entry))) r
+        ViewTold (view setting (now (image .entry))) r
         (now (cpb0 .entry)) (now (cpb0 .exit))
         (now (cpb1 .entry)) (now (cpb1 .exit))
         (now (table .entry)) (now (table .exit))
         (now (pointers .entry)) (now (pointers .exit))
         ⌝ }
 {
-    let setting = Setting {
-        granule: granule,
-        spt0: spt0,
-        spt1: spt1,
-    };
     let seen = views::view(image, setting);
     match seen {
         Viewed::Refused(why) => why.number,
@@ -57,9 +49,7 @@ pub fn view(
 // For each of the four blocks 1 if it stands, for each pair 1 if it agrees, else 0.
 pub fn copies(
     image: &[u8],
-    granule: usize,
-    spt0: usize,
-    spt1: usize,
+    setting: Setting,
     table0: &mut u8,
     table1: &mut u8,
     pointers0: &mut u8,
@@ -68,7 +58,7 @@ pub fn copies(
     pointers: &mut u8,
 ) -> u8
     ensures { λ r. ⌜
-        CopiesTold (condition (setting granule spt0 spt1) (now (image .entry))) r
+        CopiesTold (condition setting (now (image .entry))) r
         (now (table0 .entry)) (now (table0 .exit))
         (now (table1 .entry)) (now (table1 .exit))
         (now (pointers0 .entry)) (now (pointers0 .exit))
@@ -77,11 +67,6 @@ pub fn copies(
         (now (pointers .entry)) (now (pointers .exit))
         ⌝ }
 {
-    let setting = Setting {
-        granule: granule,
-        spt0: spt0,
-        spt1: spt1,
-    };
     let inspected = conditions::condition_of(image, setting);
     match inspected {
         Inspected::Refused(why) => why.number,
@@ -102,27 +87,20 @@ pub fn copies(
 // entry by itself; 0 and 127 for a copy that stands. Refused 1 to 3 only.
 pub fn table_faults(
     image: &[u8],
-    granule: usize,
-    spt0: usize,
-    spt1: usize,
+    setting: Setting,
     rule0: &mut u8,
     entry0: &mut usize,
     rule1: &mut u8,
     entry1: &mut usize,
 ) -> u8
     ensures { λ r. ⌜
-        FaultsTold (table-faults (setting granule spt0 spt1) (now (image .entry))) r
+        FaultsTold (table-faults setting (now (image .entry))) r
         (now (rule0 .entry)) (now (rule0 .exit))
         (now (entry0 .entry)) (now (entry0 .exit))
         (now (rule1 .entry)) (now (rule1 .exit))
         (now (entry1 .entry)) (now (entry1 .exit))
         ⌝ }
 {
-    let setting = Setting {
-        granule: granule,
-        spt0: spt0,
-        spt1: spt1,
-    };
     let faults = views::table_faults(image, setting);
     match faults {
         Faults::Refused(why) => why.number,
@@ -137,16 +115,11 @@ pub fn table_faults(
 }
 
 // How many entries the table read has.
-pub fn entry_count(image: &[u8], granule: usize, spt0: usize, spt1: usize, count: &mut usize) -> u8
+pub fn entry_count(image: &[u8], setting: Setting, count: &mut usize) -> u8
     ensures { λ r. ⌜
-        CountTold (entry-total (setting granule spt0 spt1) (now (image .entry))) r (now (count .entry)) (now (count .exit))
+        CountTold (entry-total setting (now (image .entry))) r (now (count .entry)) (now (count .exit))
         ⌝ }
 {
-    let setting = Setting {
-        granule: granule,
-        spt0: spt0,
-        spt1: spt1,
-    };
     codes::answers::total(inspect::entry::entry_total(image, setting), count)
 }
 
@@ -154,9 +127,7 @@ pub fn entry_count(image: &[u8], granule: usize, spt0: usize, spt1: usize, count
 // flags; 91 where the lent bytes are too few.
 pub fn entry(
     image: &[u8],
-    granule: usize,
-    spt0: usize,
-    spt1: usize,
+    setting: Setting,
     entry: usize,
     name: &mut [u8],
     count: &mut usize,
@@ -165,7 +136,7 @@ pub fn entry(
     flags: &mut u64,
 ) -> u8
     ensures { λ r. ⌜
-        EntryTold (named-entry (setting granule spt0 spt1) (now (image .entry)) entry (length (now (name .entry)))) r
+        EntryTold (named-entry setting (now (image .entry)) entry (length (now (name .entry)))) r
         (now (name .entry)) (now (name .exit))
         (now (count .entry)) (now (count .exit))
         (now (start .entry)) (now (start .exit))
@@ -173,11 +144,6 @@ pub fn entry(
         (now (flags .entry)) (now (flags .exit))
         ⌝ }
 {
-    let setting = Setting {
-        granule: granule,
-        spt0: spt0,
-        spt1: spt1,
-    };
     let found = inspect::entry::entry_name(image, setting, EntryNo(entry));
     let known = inspect::entry::entry_info(image, setting, EntryNo(entry));
     let fitting = codes::names::fitting(known, found.len(), name.len());
@@ -195,42 +161,30 @@ pub fn entry(
 }
 
 // How many places the pointer block read has.
-pub fn place_count(image: &[u8], granule: usize, spt0: usize, spt1: usize, count: &mut usize) -> u8
+pub fn place_count(image: &[u8], setting: Setting, count: &mut usize) -> u8
     ensures { λ r. ⌜
-        CountTold (place-total (setting granule spt0 spt1) (now (image .entry))) r (now (count .entry)) (now (count .exit))
+        CountTold (place-total setting (now (image .entry))) r (now (count .entry)) (now (count .exit))
         ⌝ }
 {
-    let setting = Setting {
-        granule: granule,
-        spt0: spt0,
-        spt1: spt1,
-    };
     codes::answers::total(inspect::place::place_total(image, setting), count)
 }
 
 // What a place holds: 0 for erased, 1 for live with its slot, 2 for spent, 3 for part-written, 4 for stray; and its value.
 pub fn place(
     image: &[u8],
-    granule: usize,
-    spt0: usize,
-    spt1: usize,
+    setting: Setting,
     place: usize,
     kind: &mut u8,
     slot: &mut u32,
     value: &mut u64,
 ) -> u8
     ensures { λ r. ⌜
-        PlaceTold (place-at (setting granule spt0 spt1) (now (image .entry)) place) r
+        PlaceTold (place-at setting (now (image .entry)) place) r
         (now (kind .entry)) (now (kind .exit))
         (now (slot .entry)) (now (slot .exit))
         (now (value .entry)) (now (value .exit))
         ⌝ }
 {
-    let setting = Setting {
-        granule: granule,
-        spt0: spt0,
-        spt1: spt1,
-    };
     let holding = inspect::place::place_at(image, setting, PlaceNo(place));
     match holding {
         Holding::Refused(why) => why.number,

@@ -5,30 +5,17 @@ use reading::Counted;
 use rules::Setting;
 use rules::SlotNo;
 ghost use lib.ListN.{length};
-ghost use Rattle.rules.specs.Numbers.{setting};
 ghost use Rattle.rules.specs.Readers.{order-list, slot-count, slot-info};
 ghost use Rattle.reads_for_c.specs.Answered.{Written, name-answer};
 ghost use Rattle.reads_for_c.specs.Told.{CountTold, SlotTold};
 
 // The boot order's slot numbers into the front of the row, and how many there are.
-pub fn order(
-    image: &[u8],
-    granule: usize,
-    spt0: usize,
-    spt1: usize,
-    row: &mut [u32],
-    count: &mut usize,
-) -> u8
+pub fn order(image: &[u8], setting: Setting, row: &mut [u32], count: &mut usize) -> u8
     ensures { λ r. ⌜
-        Written (order-list (setting granule spt0 spt1) (now (image .entry)) (length (now (row .entry)))) r
+        Written (order-list setting (now (image .entry)) (length (now (row .entry)))) r
         (now (row .entry)) (now (row .exit)) (now (count .entry)) (now (count .exit))
         ⌝ }
 {
-    let setting = Setting {
-        granule: granule,
-        spt0: spt0,
-        spt1: spt1,
-    };
     let listed = reading::order_list(image, setting, row);
     match listed {
         Listed::Refused(why) => why.number,
@@ -40,16 +27,11 @@ pub fn order(
 }
 
 // How many application slots there are.
-pub fn slot_count(image: &[u8], granule: usize, spt0: usize, spt1: usize, count: &mut usize) -> u8
+pub fn slot_count(image: &[u8], setting: Setting, count: &mut usize) -> u8
     ensures { λ r. ⌜
-        CountTold (slot-count (setting granule spt0 spt1) (now (image .entry))) r (now (count .entry)) (now (count .exit))
+        CountTold (slot-count setting (now (image .entry))) r (now (count .entry)) (now (count .exit))
         ⌝ }
 {
-    let setting = Setting {
-        granule: granule,
-        spt0: spt0,
-        spt1: spt1,
-    };
     let counted = reading::slot_count(image, setting);
     match counted {
         Counted::Refused(why) => why.number,
@@ -63,9 +45,7 @@ pub fn slot_count(image: &[u8], granule: usize, spt0: usize, spt1: usize, count:
 // The entry number, start, length and flags of a slot.
 pub fn slot_facts(
     image: &[u8],
-    granule: usize,
-    spt0: usize,
-    spt1: usize,
+    setting: Setting,
     slot: u32,
     entry: &mut usize,
     start: &mut u64,
@@ -73,18 +53,13 @@ pub fn slot_facts(
     flags: &mut u64,
 ) -> u8
     ensures { λ r. ⌜
-        SlotTold (slot-info (setting granule spt0 spt1) (now (image .entry)) slot) r
+        SlotTold (slot-info setting (now (image .entry)) slot) r
         (now (entry .entry)) (now (entry .exit))
         (now (start .entry)) (now (start .exit))
         (now (size .entry)) (now (size .exit))
         (now (flags .entry)) (now (flags .exit))
         ⌝ }
 {
-    let setting = Setting {
-        granule: granule,
-        spt0: spt0,
-        spt1: spt1,
-    };
     let known = reading::slot_info(image, setting, SlotNo(slot));
     match known {
         Known::Refused(why) => why.number,
@@ -101,23 +76,16 @@ pub fn slot_facts(
 // The name of a slot up to its zero into the front of the lent bytes, and its length; 91 where they are too few.
 pub fn slot_name(
     image: &[u8],
-    granule: usize,
-    spt0: usize,
-    spt1: usize,
+    setting: Setting,
     slot: u32,
     name: &mut [u8],
     count: &mut usize,
 ) -> u8
     ensures { λ r. ⌜
-        Written (name-answer (setting granule spt0 spt1) (now (image .entry)) slot (length (now (name .entry)))) r
+        Written (name-answer setting (now (image .entry)) slot (length (now (name .entry)))) r
         (now (name .entry)) (now (name .exit)) (now (count .entry)) (now (count .exit))
         ⌝ }
 {
-    let setting = Setting {
-        granule: granule,
-        spt0: spt0,
-        spt1: spt1,
-    };
     let found = reading::slot_name(image, setting, SlotNo(slot));
     let known = reading::slot_info(image, setting, SlotNo(slot));
     let fitting = codes::names::fitting(known, found.len(), name.len());

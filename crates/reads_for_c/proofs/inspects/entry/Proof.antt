@@ -6,7 +6,6 @@ use lib.ListN.{length}
 use borrow.Author.Needs.{needs}
 use borrow.Author.Tests.{leb-true}
 use Rattle.rules.specs.Answers.{given}
-use Rattle.rules.specs.Numbers.{setting}
 use Rattle.rules.specs.Readers.{row-after}
 use Rattle.rules.specs.declared.SlotInfo.{SlotInfo}
 use Rattle.infos.specs.Answers.{known}
@@ -30,8 +29,8 @@ returns c =
     let at-info = at-fitting .before in
     let named = at-info .before in
     let a = named .before .before .before .args in
-    let info = entry-info (setting (a .granule) (a .spt0) (a .spt1)) (a .image .now) (a .entry) in
-    let it = entry-name (setting (a .granule) (a .spt0) (a .spt1)) (a .image .now) (a .entry) in
+    let info = entry-info (a .setting) (a .image .now) (a .entry) in
+    let it = entry-name (a .setting) (a .image .now) (a .entry) in
     let room = length (a .name .now) in
     let e = sym (ap known (c .before .fitting2 .given .1))
     ∙ at-fitting .fitting .ensures
@@ -48,8 +47,8 @@ returns-2 c =
     let at-info = at-fitting .before in
     let named = at-info .before in
     let a = named .before .before .before .args in
-    let info = entry-info (setting (a .granule) (a .spt0) (a .spt1)) (a .image .now) (a .entry) in
-    let it = entry-name (setting (a .granule) (a .spt0) (a .spt1)) (a .image .now) (a .entry) in
+    let info = entry-info (a .setting) (a .image .now) (a .entry) in
+    let it = entry-name (a .setting) (a .image .now) (a .entry) in
     let room = length (a .name .now) in
     let found = named .entry-name .ensures in
     let (fits, e) = fits-given (with-name it) info (length it) room

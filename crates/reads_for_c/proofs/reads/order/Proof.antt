@@ -2,7 +2,6 @@
 use mathlib.Core.Path.{sym, ap, _∙_}
 use lib.ListN.{length}
 use borrow.Author.Needs.{needs}
-use Rattle.rules.specs.Numbers.{setting}
 use Rattle.rules.specs.Readers.{order-list}
 use Rattle.order_lists.specs.Answers.{listed}
 use Rattle.codes.proofs.Numbered.{number-refused, kept-refused, number-given, kept-given}
@@ -15,7 +14,7 @@ unfolding listed
 returns c =
     let a = c .before .before .before .before .before .before .before .before .before .args in
     let at-order-list = c .before .before .before .before .before .order-list in
-    let o = order-list (setting (a .granule) (a .spt0) (a .spt1)) (a .image .now) (length (a .row .now)) in
+    let o = order-list (a .setting) (a .image .now) (length (a .row .now)) in
     let e = order-refused o _ (sym (ap listed (c .before .listed .given .1)) ∙ at-order-list .ensures .0) in
     record {
       returned = number-refused e;
@@ -28,7 +27,7 @@ unfolding listed
 returns-2 c =
     let a = c .before .before .before .before .before .before .before .before .before .args in
     let at-order-list = c .before .before .before .before .before .order-list in
-    let o = order-list (setting (a .granule) (a .spt0) (a .spt1)) (a .image .now) (length (a .row .now)) in
+    let o = order-list (a .setting) (a .image .now) (length (a .row .now)) in
     let (_, e, count) = order-given o _ (sym (ap listed (c .before .listed2 .given .1)) ∙ at-order-list .ensures .0) in
     record {
       returned = number-given e;

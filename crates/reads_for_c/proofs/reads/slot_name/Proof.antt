@@ -3,7 +3,6 @@ use mathlib.Core.Path.{sym, ap, _∙_}
 use lib.ListN.{length}
 use borrow.Author.Needs.{needs}
 use borrow.Author.Tests.{leb-true}
-use Rattle.rules.specs.Numbers.{setting}
 use Rattle.rules.specs.Readers.{row-after, slot-info, slot-name}
 use Rattle.rules.specs.Answers.{given}
 use Rattle.infos.specs.Answers.{known}
@@ -22,8 +21,8 @@ returns c =
     let at-info = at-fitting .before in
     let named = at-info .before in
     let a = named .before .before .before .args in
-    let info = slot-info (setting (a .granule) (a .spt0) (a .spt1)) (a .image .now) (a .slot) in
-    let it = slot-name (setting (a .granule) (a .spt0) (a .spt1)) (a .image .now) (a .slot) in
+    let info = slot-info (a .setting) (a .image .now) (a .slot) in
+    let it = slot-name (a .setting) (a .image .now) (a .slot) in
     let room = length (a .name .now) in
     let e = sym (ap known (c .before .fitting2 .given .1))
     ∙ at-fitting .fitting .ensures
@@ -39,8 +38,8 @@ returns-2 c =
     let at-info = at-fitting .before in
     let named = at-info .before in
     let a = named .before .before .before .args in
-    let info = slot-info (setting (a .granule) (a .spt0) (a .spt1)) (a .image .now) (a .slot) in
-    let it = slot-name (setting (a .granule) (a .spt0) (a .spt1)) (a .image .now) (a .slot) in
+    let info = slot-info (a .setting) (a .image .now) (a .slot) in
+    let it = slot-name (a .setting) (a .image .now) (a .slot) in
     let room = length (a .name .now) in
     let found = named .slot-name .ensures in
     let (fits, e) = fits-given (λ _. it) info (length it) room
