@@ -1,4 +1,6 @@
 // A flash looked into: where things are, which copies stand and agree, its entries, its places.
+use rules::EntryNo;
+use rules::PlaceNo;
 use rules::Setting;
 ghost use lib.ListN.{length};
 ghost use Rattle.rules.specs.Numbers.{setting};
@@ -158,7 +160,16 @@ pub extern "C" fn delunkpawi_entry(
         spt0: spt0,
         spt1: spt1,
     };
-    reads_for_c::inspects::entry(image, setting, entry, name, count, start, size, flags)
+    reads_for_c::inspects::entry(
+        image,
+        setting,
+        EntryNo(entry),
+        name,
+        count,
+        start,
+        size,
+        flags,
+    )
 }
 
 // How many places the pointer block read has.
@@ -206,5 +217,5 @@ pub extern "C" fn delunkpawi_place(
         spt0: spt0,
         spt1: spt1,
     };
-    reads_for_c::inspects::place(image, setting, place, kind, slot, value)
+    reads_for_c::inspects::place(image, setting, PlaceNo(place), kind, slot, value)
 }

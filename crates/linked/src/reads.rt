@@ -1,5 +1,6 @@
 // A flash read: its boot order, its slots, what is known of one.
 use rules::Setting;
+use rules::SlotNo;
 ghost use lib.ListN.{length};
 ghost use Rattle.rules.specs.Numbers.{setting};
 ghost use Rattle.rules.specs.Readers.{order-list, slot-count, slot-info};
@@ -76,7 +77,7 @@ pub extern "C" fn delunkpawi_slot_facts(
         spt0: spt0,
         spt1: spt1,
     };
-    reads_for_c::reads::slot_facts(image, setting, slot, entry, start, size, flags)
+    reads_for_c::reads::slot_facts(image, setting, SlotNo(slot), entry, start, size, flags)
 }
 
 // The name of a slot up to its zero into the front of the lent bytes, and its length; 91 where they are too few.
@@ -100,5 +101,5 @@ pub extern "C" fn delunkpawi_slot_name(
         spt0: spt0,
         spt1: spt1,
     };
-    reads_for_c::reads::slot_name(image, setting, slot, name, count)
+    reads_for_c::reads::slot_name(image, setting, SlotNo(slot), name, count)
 }

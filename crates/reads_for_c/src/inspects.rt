@@ -128,7 +128,7 @@ pub fn entry_count(image: &[u8], setting: Setting, count: &mut usize) -> u8
 pub fn entry(
     image: &[u8],
     setting: Setting,
-    entry: usize,
+    entry: EntryNo,
     name: &mut [u8],
     count: &mut usize,
     start: &mut u64,
@@ -136,7 +136,7 @@ pub fn entry(
     flags: &mut u64,
 ) -> u8
     ensures { λ r. ⌜
-        EntryTold (named-entry setting (now (image .entry)) entry (length (now (name .entry)))) r
+        EntryTold (named-entry setting (now (image .entry)) (entry .0) (length (now (name .entry)))) r
         (now (name .entry)) (now (name .exit))
         (now (count .entry)) (now (count .exit))
         (now (start .entry)) (now (start .exit))
@@ -144,8 +144,8 @@ pub fn entry(
         (now (flags .entry)) (now (flags .exit))
         ⌝ }
 {
-    let found = inspect::entry::entry_name(image, setting, EntryNo(entry));
-    let known = inspect::entry::entry_info(image, setting, EntryNo(entry));
+    let found = inspect::entry::entry_name(image, setting, entry);
+    let known = inspect::entry::entry_info(image, setting, entry);
     let fitting = codes::names::fitting(known, found.len(), name.len());
     match fitting {
         Known::Refused(why) => why.number,
@@ -173,19 +173,19 @@ pub fn place_count(image: &[u8], setting: Setting, count: &mut usize) -> u8
 pub fn place(
     image: &[u8],
     setting: Setting,
-    place: usize,
+    place: PlaceNo,
     kind: &mut u8,
     slot: &mut u32,
     value: &mut u64,
 ) -> u8
     ensures { λ r. ⌜
-        PlaceTold (place-at setting (now (image .entry)) place) r
+        PlaceTold (place-at setting (now (image .entry)) (place .0)) r
         (now (kind .entry)) (now (kind .exit))
         (now (slot .entry)) (now (slot .exit))
         (now (value .entry)) (now (value .exit))
         ⌝ }
 {
-    let holding = inspect::place::place_at(image, setting, PlaceNo(place));
+    let holding = inspect::place::place_at(image, setting, place);
     match holding {
         Holding::Refused(why) => why.number,
         Holding::Is(h) => {

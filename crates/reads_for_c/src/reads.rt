@@ -46,21 +46,21 @@ pub fn slot_count(image: &[u8], setting: Setting, count: &mut usize) -> u8
 pub fn slot_facts(
     image: &[u8],
     setting: Setting,
-    slot: u32,
+    slot: SlotNo,
     entry: &mut usize,
     start: &mut u64,
     size: &mut u64,
     flags: &mut u64,
 ) -> u8
     ensures { λ r. ⌜
-        SlotTold (slot-info setting (now (image .entry)) slot) r
+        SlotTold (slot-info setting (now (image .entry)) (slot .0)) r
         (now (entry .entry)) (now (entry .exit))
         (now (start .entry)) (now (start .exit))
         (now (size .entry)) (now (size .exit))
         (now (flags .entry)) (now (flags .exit))
         ⌝ }
 {
-    let known = reading::slot_info(image, setting, SlotNo(slot));
+    let known = reading::slot_info(image, setting, slot);
     match known {
         Known::Refused(why) => why.number,
         Known::Is(f) => {
@@ -77,17 +77,17 @@ pub fn slot_facts(
 pub fn slot_name(
     image: &[u8],
     setting: Setting,
-    slot: u32,
+    slot: SlotNo,
     name: &mut [u8],
     count: &mut usize,
 ) -> u8
     ensures { λ r. ⌜
-        Written (name-answer setting (now (image .entry)) slot (length (now (name .entry)))) r
+        Written (name-answer setting (now (image .entry)) (slot .0) (length (now (name .entry)))) r
         (now (name .entry)) (now (name .exit)) (now (count .entry)) (now (count .exit))
         ⌝ }
 {
-    let found = reading::slot_name(image, setting, SlotNo(slot));
-    let known = reading::slot_info(image, setting, SlotNo(slot));
+    let found = reading::slot_name(image, setting, slot);
+    let known = reading::slot_info(image, setting, slot);
     let fitting = codes::names::fitting(known, found.len(), name.len());
     match fitting {
         Known::Refused(why) => why.number,
