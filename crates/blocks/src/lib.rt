@@ -4,14 +4,14 @@ pub mod tables; // a table with another name in an entry
 pub mod made; // jobs, and their plans
 
 // The numbers of some places, two bytes each, in the front of an array.
-#[derive(Drop)]
+#[derive(Clone, Copy)]
 pub struct PlaceList {
     pub places: [u8; jobs::PLACES_SIZE],
     pub count: usize,
 }
 
 // The pair that a job is for: the image's length, the granule, where copy 0 and copy 1 are.
-#[derive(Drop)]
+#[derive(Clone, Copy)]
 pub struct Target {
     pub len: usize,
     pub granule: usize,

@@ -14,20 +14,20 @@ use rules::{Refusal, Setting, SlotNo};
 use views::Viewed;
 
 // A reading: the table copy read, and the boot order.
-#[derive(Drop)]
+#[derive(Clone, Copy)]
 pub struct Book {
     pub table: [u8; rules::BLOCK_SIZE],
     pub order: Order,
 }
 
-#[derive(Drop)]
+#[derive(Clone, Copy)]
 pub enum Answer {
     Given,
     Refused(Refusal),
 }
 
 // What a flash reads as: beside a refusal the book means nothing.
-#[derive(Drop)]
+#[derive(Clone, Copy)]
 pub struct Read {
     pub book: Book,
     pub answer: Answer,

@@ -12,14 +12,14 @@ use rules::SlotNo;
 pub const ROOM: usize = 128;
 
 // The slot numbers, first in the order first. Those past the count are not meant.
-#[derive(Drop)]
+#[derive(Clone, Copy)]
 pub struct Order {
     pub row: [u32; ROOM],
     pub count: usize,
 }
 
 // What becomes of the slots of an order: one is left out, or each number above that of a slot that is gone is one lower.
-#[derive(Drop)]
+#[derive(Clone, Copy)]
 pub enum Change {
     Without(SlotNo),
     Lowered(SlotNo),

@@ -5,7 +5,7 @@ pub mod names; // a name that has to fit
 pub mod judgements; // a judgement of a place as two, a test as one
 
 // A step's kind, its address and the byte programmed.
-#[derive(Drop)]
+#[derive(Clone, Copy)]
 pub struct StepCode {
     pub kind: u8,
     pub address: usize,
@@ -13,14 +13,14 @@ pub struct StepCode {
 }
 
 // What a place holds, and the slot of a live one.
-#[derive(Drop)]
+#[derive(Clone, Copy)]
 pub struct PlaceCode {
     pub kind: u8,
     pub slot: u32,
 }
 
 // The condition of the four blocks, each test as a number.
-#[derive(Drop)]
+#[derive(Clone, Copy)]
 pub struct Bits {
     pub spt0: u8,
     pub spt1: u8,

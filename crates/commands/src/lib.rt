@@ -16,7 +16,7 @@ use rules::{Setting, SlotNo, View};
 use views::Viewed;
 
 // What is asked of a flash. The new name of a slot is lent beside it; a new slot is created with a length.
-#[derive(Drop)]
+#[derive(Clone, Copy)]
 pub enum Command {
     Enable(SlotNo),
     Disable(SlotNo),
@@ -27,7 +27,7 @@ pub enum Command {
 }
 
 // A start: the job, which is the one of no steps where it was refused, and the answer.
-#[derive(Drop)]
+#[derive(Clone, Copy)]
 pub struct StartResult {
     pub job: Job,
     pub answer: Outcome,

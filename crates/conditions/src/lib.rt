@@ -8,7 +8,7 @@ use rules::{Refusal, Setting, View};
 use views::Viewed;
 
 // For each of the four blocks whether it stands, for each pair whether it agrees.
-#[derive(Drop)]
+#[derive(Clone, Copy)]
 pub struct Condition {
     pub spt0: bool,
     pub spt1: bool,
@@ -19,7 +19,7 @@ pub struct Condition {
 }
 
 // The condition of the four blocks, or a refusal.
-#[derive(Drop)]
+#[derive(Clone, Copy)]
 pub enum Inspected {
     Is(Condition),
     Refused(Refusal),

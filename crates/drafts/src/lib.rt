@@ -16,7 +16,7 @@ use rules::Refusal;
 use slots::Rows;
 
 // What a start answers: started, or refused.
-#[derive(Drop)]
+#[derive(Clone, Copy)]
 pub enum Outcome {
     Started,
     Refused(Refusal),
@@ -24,7 +24,7 @@ pub enum Outcome {
 
 // A command's refusal, or its job in short. The block that both copies of a pair get, or the numbers of the places, stand
 // in the room lent beside it; a repair's two blocks are in the image, at these addresses.
-#[derive(Drop)]
+#[derive(Clone, Copy)]
 pub enum Draft {
     Refused(Refusal),
     NoSteps(Plan),
@@ -34,7 +34,7 @@ pub enum Draft {
 }
 
 // The places that give a slot, with its start and what was read to find them.
-#[derive(Drop)]
+#[derive(Clone, Copy)]
 pub struct SlotPlaces {
     pub rows: Rows,
     pub places: Places,

@@ -6,7 +6,7 @@ pub mod ranges; // rule 7, for most tables by neighbours
 // What a rule asks of one entry: 3, 5 and 6 of the eleven, the last with the image length; of an entry with one of the
 // six names 9, 10 with the two addresses told and 11 with the granule; and that the name is padded with zeros, by which
 // rule 4 is judged faster.
-#[derive(Drop)]
+#[derive(Clone, Copy)]
 pub enum Rule {
     NameRight,
     NamePadded,
@@ -18,7 +18,7 @@ pub enum Rule {
 }
 
 // A rule that each two counted entries keep: 4 and 7 of the eleven, and 4 of padded names.
-#[derive(Drop)]
+#[derive(Clone, Copy)]
 pub enum PairRule {
     NamesDiffer,
     FieldsDiffer,

@@ -26,7 +26,7 @@ pub fn ends_by(start: u64, size: u64, bound: u64) -> bool
 }
 
 // Where a part begins and ends. An empty one that is not right stands for a part that lies outside.
-#[derive(Drop)]
+#[derive(Clone, Copy)]
 pub struct Part {
     pub right: bool,
     pub from: usize,

@@ -13,7 +13,7 @@ use jobs::{Did, Job};
 use rules::{Refusal, Setting};
 
 // How many steps were done, or a refusal.
-#[derive(Drop)]
+#[derive(Clone, Copy)]
 pub enum Done {
     Steps(usize),
     Refused(Refusal),

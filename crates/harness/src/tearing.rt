@@ -5,7 +5,7 @@ ghost use Rattle.harness.specs.Choices.{mixed, wipes, torn_inside};
 
 // Which bytes are wiped: so many of the lowest or of the highest, one alone, all but one, those of even or of odd
 // number, or some by a seed.
-#[derive(Drop)]
+#[derive(Clone, Copy)]
 pub enum Choice {
     Lowest(usize),
     Highest(usize),

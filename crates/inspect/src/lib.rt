@@ -5,7 +5,7 @@ pub mod place; // the places of the pointer block read, and refusal 93
 use rules::Refusal;
 
 // How many entries or places there are, or a refusal.
-#[derive(Drop)]
+#[derive(Clone, Copy)]
 pub enum Total {
     Is(usize),
     Refused(Refusal),

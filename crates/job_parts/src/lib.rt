@@ -12,7 +12,7 @@ use part_steps::windows::Window;
 use part_steps::{Next, into_places, rewriting, windows};
 
 // What a part of a job does at its address.
-#[derive(Drop)]
+#[derive(Clone, Copy)]
 pub enum Kind {
     Nothing,
     Rewrite,
@@ -21,7 +21,7 @@ pub enum Kind {
 
 // A job without its arrays: image length and granule at the start, where the places of a pointer block begin, and
 // two parts, each with its kind and its address. Of the places' numbers the first `count` are meant.
-#[derive(Drop)]
+#[derive(Clone, Copy)]
 pub struct Plan {
     pub len: usize,
     pub granule: usize,

@@ -17,7 +17,7 @@ pub const PLACES_SIZE: usize = 2 * rules::MOST_PLACES;
 
 // A job: its plan, how many steps are done, a block for each part, the places' numbers of two bytes each, lowest byte
 // first, and the bytes for the places.
-#[derive(Drop)]
+#[derive(Clone, Copy)]
 pub struct Job {
     pub plan: Plan,
     pub done: usize,
@@ -28,13 +28,13 @@ pub struct Job {
 }
 
 // What a run did: so many steps, or a refusal.
-#[derive(Drop)]
+#[derive(Clone, Copy)]
 pub enum Did {
     Steps(usize),
     Refused(Refusal),
 }
 
-#[derive(Drop)]
+#[derive(Clone, Copy)]
 pub struct Ran {
     pub job: Job,
     pub did: Did,

@@ -15,7 +15,7 @@ use rules::refusals::ROW_TOO_SHORT;
 use slots::Rows;
 
 // How many slot numbers the order list wrote, or a refusal.
-#[derive(Drop)]
+#[derive(Clone, Copy)]
 pub enum Listed {
     Count(usize),
     Refused(Refusal),

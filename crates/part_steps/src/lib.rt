@@ -8,7 +8,7 @@ pub mod rewriting; // a block rewritten
 pub mod windows; // of some steps, those from one on
 
 // The step that comes next.
-#[derive(Drop)]
+#[derive(Clone, Copy)]
 pub enum Next {
     Is(Step),
     Finished,

@@ -4,7 +4,7 @@ ghost use Rattle.part_steps.specs.Inner.Windows.{beyond};
 
 use fields::bounds;
 
-#[derive(Drop)]
+#[derive(Clone, Copy)]
 pub struct Window {
     pub from: usize,
     pub n: usize,

@@ -9,14 +9,14 @@ use rules::refusals::NO_SUCH_PLACE;
 use rules::{Place, PlaceNo, Refusal};
 
 // The judgement of a place, and its value.
-#[derive(Drop)]
+#[derive(Clone, Copy)]
 pub struct Held {
     pub judgement: Place,
     pub value: u64,
 }
 
 // What a place holds, or a refusal.
-#[derive(Drop)]
+#[derive(Clone, Copy)]
 pub enum Holding {
     Is(Held),
     Refused(Refusal),

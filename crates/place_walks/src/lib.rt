@@ -16,7 +16,7 @@ use rules::{Place, PlaceNo, SlotNo};
 use slots::Rows;
 
 // What one place adds to the boot order.
-#[derive(Drop)]
+#[derive(Clone, Copy)]
 pub enum Added {
     Slot(SlotNo),
     Nothing,

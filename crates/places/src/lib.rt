@@ -35,7 +35,7 @@ const TOP_BYTE: u64 = 0x0100_0000_0000_0000;
 
 // The places of a pointer block: where they begin, how many there are, and the lowest such that it and all above are
 // erased, or the count.
-#[derive(Drop)]
+#[derive(Clone, Copy)]
 pub struct Places {
     pub offset: usize,
     pub count: usize,

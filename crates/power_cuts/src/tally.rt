@@ -1,6 +1,6 @@
 // Counts of what was read after cuts.
 
-#[derive(Drop)]
+#[derive(Clone, Copy)]
 pub struct Tally {
     pub cuts: u64,
     pub old: u64,

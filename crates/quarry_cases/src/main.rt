@@ -147,7 +147,7 @@ fn names(image: &mut [u8]) {
 
 // ---- which case on which image
 
-#[derive(Drop)]
+#[derive(Clone, Copy)]
 enum Case {
     Enable(SlotNo),
     EnableThird(PlaceNo),

@@ -11,7 +11,7 @@ use rules::{Refusal, Setting, SlotNo};
 use views::Viewed;
 
 // How many application slots there are, or a refusal.
-#[derive(Drop)]
+#[derive(Clone, Copy)]
 pub enum Counted {
     Slots(usize),
     Refused(Refusal),

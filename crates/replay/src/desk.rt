@@ -5,7 +5,7 @@ use rules::Setting;
 
 // `length`: that of the image. `busy`: there is a current job. `line`: the number of the line. `used`: how many of its
 // bytes are read.
-#[derive(Drop)]
+#[derive(Clone, Copy)]
 pub struct Desk {
     pub length: usize,
     pub setting: Setting,

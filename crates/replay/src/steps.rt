@@ -110,7 +110,7 @@ fn wipe_ranges(granule: &mut [u8], ranges: usize, line: &[u8]) {
 }
 
 // The last number of a part of a line, and how many bytes stand before it and its space.
-#[derive(Drop)]
+#[derive(Clone, Copy)]
 struct Last {
     number: usize,
     before: usize,

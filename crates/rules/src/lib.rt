@@ -10,19 +10,19 @@ pub const MOST_ENTRIES: usize = 127;
 pub const MOST_PLACES: usize = 508;
 
 // The number of an entry: its row in the sub-partition table, from 0.
-#[derive(Drop)]
+#[derive(Clone, Copy)]
 pub struct EntryNo(pub usize);
 
 // The number of a slot: application slots only, in table order, from 0.
-#[derive(Drop)]
+#[derive(Clone, Copy)]
 pub struct SlotNo(pub u32);
 
 // The number of a pointer place in a pointer block, from 0.
-#[derive(Drop)]
+#[derive(Clone, Copy)]
 pub struct PlaceNo(pub usize);
 
 // What a caller says of a flash beside its bytes: the erase granule, and where the two copies of the table are.
-#[derive(Drop)]
+#[derive(Clone, Copy)]
 pub struct Setting {
     pub granule: usize,
     pub spt0: usize,
@@ -31,7 +31,7 @@ pub struct Setting {
 
 // The first rule that a table copy breaks, 1 to 11 in the order of document 01's sentence, and the entry that breaks it.
 // Rule 0 and entry 127 where there is none.
-#[derive(Drop)]
+#[derive(Clone, Copy)]
 pub struct Fault {
     pub rule: u8,
     pub entry: EntryNo,
@@ -44,7 +44,7 @@ pub const NO_FAULT: Fault = Fault {
 };
 
 // A refusal: its number, and for numbers 50 and 51 the faults of SPT0 and of SPT1.
-#[derive(Drop)]
+#[derive(Clone, Copy)]
 pub struct Refusal {
     pub number: u8,
     pub fault0: Fault,
@@ -52,14 +52,14 @@ pub struct Refusal {
 }
 
 // The faults of SPT0 and of SPT1.
-#[derive(Drop)]
+#[derive(Clone, Copy)]
 pub struct TableFaults {
     pub fault0: Fault,
     pub fault1: Fault,
 }
 
 // What one pointer place holds. Document 01's "dead" is one of spent, part-written and stray.
-#[derive(Drop)]
+#[derive(Clone, Copy)]
 pub enum Place {
     Erased,
     Spent,
@@ -69,7 +69,7 @@ pub enum Place {
 }
 
 // Where the four blocks are, and the addresses of the two copies that are read.
-#[derive(Drop)]
+#[derive(Clone, Copy)]
 pub struct View {
     pub spt0: usize,
     pub spt1: usize,
@@ -80,7 +80,7 @@ pub struct View {
 }
 
 // What is known of an application slot, beside its name.
-#[derive(Drop)]
+#[derive(Clone, Copy)]
 pub struct SlotInfo {
     pub entry: EntryNo,
     pub start: u64,
@@ -89,7 +89,7 @@ pub struct SlotInfo {
 }
 
 // One step of the device: a byte programmed at an address, or the granule at an address erased.
-#[derive(Drop)]
+#[derive(Clone, Copy)]
 pub enum Step {
     Program(usize, u8),
     Erase(usize),

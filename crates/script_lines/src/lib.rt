@@ -9,7 +9,7 @@ use tokens::numbers::Row;
 
 // What a line does. A number is as it is written; whether it suits the image is judged elsewhere. `Command`: with an
 // empty name, or of none. `Named`: with the name that the line's last word has as bytes.
-#[derive(Drop)]
+#[derive(Clone, Copy)]
 pub enum Line {
     Nothing,
     Change(Change),
@@ -21,7 +21,7 @@ pub enum Line {
 }
 
 // `image`, `length`, `box`, `put` with the line's last word, `copy`.
-#[derive(Drop)]
+#[derive(Clone, Copy)]
 pub enum Change {
     Image(usize, u8),
     Length(usize),
@@ -31,7 +31,7 @@ pub enum Change {
 }
 
 // `order` with the length of its row, `list`, `slot`, `peek`, `sum`, `dumps`.
-#[derive(Drop)]
+#[derive(Clone, Copy)]
 pub enum Question {
     Order(usize),
     Listing,
@@ -42,7 +42,7 @@ pub enum Question {
 }
 
 // `run`, `cut`, `torn` with the number of ranges, which are the line's last words.
-#[derive(Drop)]
+#[derive(Clone, Copy)]
 pub enum Steps {
     Run(usize),
     Cut(usize, usize),

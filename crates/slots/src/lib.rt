@@ -11,7 +11,7 @@ use rules::{EntryNo, SlotNo};
 
 // The rows of a table: how many entries count; the entry from which on all of them are slots; how many slots come before
 // it. A table has its slots last as a rule, so that most slot numbers follow from entry numbers without a count.
-#[derive(Drop)]
+#[derive(Clone, Copy)]
 pub struct Rows {
     pub count: usize,
     pub from: EntryNo,

@@ -18,7 +18,7 @@ const MAGIC: u64 = 0x57713427;
 const VERSION: u64 = 0;
 
 // The entry numbers of BOOT_INFO, FACTORY_IMAGE, SPT0, SPT1, CPB0 and CPB1.
-#[derive(Drop)]
+#[derive(Clone, Copy)]
 pub struct SixEntries {
     pub boot: EntryNo,
     pub factory: EntryNo,

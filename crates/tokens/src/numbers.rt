@@ -7,14 +7,14 @@ use super::words::last_word_start;
 use answer_parts::hex;
 
 // A word read as a number: whether it is one, and its value, or 0.
-#[derive(Drop)]
+#[derive(Clone, Copy)]
 struct Number {
     right: bool,
     value: usize,
 }
 
 // The words after the verb read as numbers: whether each is one, how many there are, and the first four.
-#[derive(Drop)]
+#[derive(Clone, Copy)]
 pub struct Row {
     pub numeric: bool,
     pub count: usize,

@@ -9,14 +9,14 @@ ghost use Rattle.views.specs.Answers.{viewed, faulted};
 use rules::{NO_FAULT, Refusal, Setting, TableFaults, View};
 
 // Where things are, or a refusal.
-#[derive(Drop)]
+#[derive(Clone, Copy)]
 pub enum Viewed {
     At(View),
     Refused(Refusal),
 }
 
 // The first broken rule of each table copy, or a refusal.
-#[derive(Drop)]
+#[derive(Clone, Copy)]
 pub enum Faults {
     Are(TableFaults),
     Refused(Refusal),
