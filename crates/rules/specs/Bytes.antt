@@ -1,11 +1,11 @@
--- Bytes of a flash: little_endian fields, blocks of 4,096 bytes, names up to a zero byte. Assumes nothing.
+-- Bytes of a flash: little-endian fields, blocks of 4,096 bytes, names up to a zero byte. Assumes nothing.
 use Rattle.std.specs.Prelude.{Bool, cond, List, [], ◌∷◌, ℕ, zero, suc, ◌+◌, ◌*◌, ◌/◌, ◌%◌, ◌<◌, eqb, take, drop, get_or}
 
 -- every element is a byte
 abbrev pub Bytes : List ℕ → Type 0
 Bytes bs = (i : ℕ) → get_or bs i 0 < 256
 
--- "All fields are little_endian": the number that bytes hold, lowest byte first
+-- "All fields are little-endian": the number that bytes hold, lowest byte first
 unfoldable pub little_endian : List ℕ → ℕ
 little_endian [] = 0
 little_endian (b ∷ bs) = b + 256 * little_endian bs

@@ -1,5 +1,5 @@
 -- Facts about tests over lists: all, any, pairwise, keep, first, and one element changed. Assumes nothing.
-use mathlib.Core.Path.{◌≡◌, refl}
+use mathlib.Core.Path.{subst, ◌≡◌, refl, sym}
 use mathlib.Core.Bool.{Bool, true, false, not, ◌&&◌, ◌||◌}
 use mathlib.Core.List.{List, [], ◌∷◌, ◌++◌}
 use Prim.Native.Nat.{ℕ, zero, suc, ◌≤◌, ◌<◌}
@@ -119,9 +119,19 @@ module _ {A : Type 0} where
   first_with_others f p d (x ∷ xs) t a =
       let (q, r) = and_true (all (f x) xs) (pairwise f xs) t in
       by_cases (p x)
-      (λ y. rw y (all_weaker (f x) _ (λ z h. rw h (or_right (p z))) xs q))
-      (λ y. rw (y, first_of_all (f x) p d xs (rw y at a) q, or_right (f (first p d xs) x))
-      (first_with_others f p d xs r (rw y at a)))
+      (λ y.
+      let g : first p d (x ∷ xs) ≡ x = rw y refl in
+      subst
+      (λ (w : A). (p x || (f w x || f x w)) && all (λ z. p z || (f w z || f z w)) xs ≡ true)
+      (sym g)
+      (rw y (all_weaker (f x) (λ z. p z || (f x z || f z x)) (λ z h. rw h (or_right (p z))) xs q)))
+      (λ y.
+      let g : first p d (x ∷ xs) ≡ first p d xs = rw y refl in
+      subst
+      (λ (w : A). (p x || (f w x || f x w)) && all (λ z. p z || (f w z || f z w)) xs ≡ true)
+      (sym g)
+      (rw (y, first_of_all (f x) p d xs (rw y at a) q, or_right (f (first p d xs) x))
+      (first_with_others f p d xs r (rw y at a))))
 
   -- ---- one element changed
 

@@ -1,6 +1,6 @@
 -- The jobs of enable and disable on a flash whose pairs agree: at every cut the boot order is the old or the new one.
 -- Assumes nothing.
-use mathlib.Core.Path.{subst, ◌≡◌, refl, sym, ◌∙◌}
+use mathlib.Core.Path.{subst, ◌≡◌, refl, sym, ap, ◌∙◌}
 use mathlib.Core.Bool.{true, false}
 use mathlib.Core.Logic.{◌⊎◌, inl, inr}
 use mathlib.Core.List.{List, [], ◌∷◌}
@@ -33,7 +33,9 @@ use Rattle.rules.proofs.Claim.JobRight.{Leads, JobRight, job_right}
 first_again : (n k : ℕ) (o : List ℕ) → Once n o → is_first k o ≡ true → k ∷ without k o ≡ o
 unfolding is_first without
 first_again n k [] u t = absurd (clash false t refl)
-first_again n k (x ∷ o) (m, l, u) t = let e : k ≡ x = eqb-true k x t in rw (t, e, without_absent x o m)
+first_again n k (x ∷ o) (m, l, u) t =
+    let e : k ≡ x = eqb-true k x t in
+    rw t (subst (λ (w : ℕ). w ∷ without w o ≡ x ∷ o) (sym e) (ap (λ (y : List ℕ). x ∷ y) (without_absent x o m)))
 
 module _ (beginning : Beginning) (img : List ℕ) (r : Reading) (h : Invariant beginning img r)
     (equal : BothEqual beginning img) where
