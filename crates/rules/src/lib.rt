@@ -1,4 +1,6 @@
 // The types and numbers that the definitions and the code share.
+#![tactic(auto)]
+
 pub mod refusals; // the refusals by name
 
 // The length of a table and of a pointer block, and the unit of every partition.
