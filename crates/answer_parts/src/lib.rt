@@ -1,5 +1,7 @@
 // The parts of an answer: numbers, bytes in hexadecimal, which are read too, and a sum of bytes. What is put into a lent
 // buffer is put from an index on, and its function answers where it ends.
+#![tactic(auto)]
+
 pub mod hex; // bytes as pairs of hexadecimal digits
 pub mod sum; // a sum of bytes
 

@@ -1,4 +1,6 @@
 // What a command makes up beforehand: blocks, by value or in a room lent for them, and the plans of jobs.
+#![tactic(auto)]
+
 pub mod bytes; // bytes put into a block
 pub mod tables; // a table with another name in an entry
 pub mod made; // jobs, and their plans

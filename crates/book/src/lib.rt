@@ -1,5 +1,7 @@
 // Document 01's book for the programs that try the commands on real bytes: what a flash reads as, and the change that
 // each finished command makes.
+#![tactic(auto)]
+
 ghost use Rattle.std.specs.Prelude.{◌≡◌};
 ghost use Rattle.rules.specs.Copies.{pairs_agree};
 ghost use Rattle.rules.specs.Book.{reading};

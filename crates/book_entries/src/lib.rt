@@ -1,4 +1,6 @@
 // The table as the book keeps it: by value, with the new name, without a slot, with a new one.
+#![tactic(auto)]
+
 ghost use Rattle.std.specs.Prelude.{◌≡◌, true, cond, ◌<◌, length};
 ghost use Rattle.rules.specs.Lists.{same};
 ghost use Rattle.rules.specs.Bytes.{block_size};

@@ -1,4 +1,6 @@
 // The boot order as the book keeps it: by value, with a slot first, without one, or with one gone.
+#![tactic(auto)]
+
 ghost use Rattle.std.specs.Prelude.{◌≡◌, cond, [], ◌∷◌, min, leb, length};
 ghost use Rattle.rules.specs.Lists.{same, without};
 ghost use Rattle.rules.specs.Book.{lowered};

@@ -2,6 +2,8 @@
 // above which nothing is added, until all slots are met. A live place is compared with those above it up to the first
 // of its value and at most three further; of one slot these stretches overlap by no more, so that all of them together
 // are about places times slots at most.
+#![tactic(auto)]
+
 ghost use Rattle.std.specs.Prelude.{◌≡◌, ◌++◌, ◌+◌, ◌≤◌, length, drop};
 ghost use Rattle.rules.specs.Copies.{order_by};
 ghost use Rattle.slots.specs.Inner.RowsOf.{HasRows};

@@ -1,4 +1,6 @@
 // Refusals 1 to 3: the image's length, the granule, and the addresses that the caller gives.
+#![tactic(auto)]
+
 ghost use Rattle.std.specs.Prelude.{◌≡◌, ◌<◌};
 ghost use Rattle.rules.specs.Numbers.{length_right, granule_right, address_right, addresses_right};
 ghost use Rattle.bounds.specs.Inner.Due.{due};

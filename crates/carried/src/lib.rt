@@ -1,5 +1,7 @@
 // Any command carried out by a function: started, and its job run twice. Its contract says that these calls are as the
 // theorem of `joined` asks, so the contracts of `start`, of `jobs::run` and of the readers give what it assumes.
+#![tactic(auto)]
+
 ghost use Rattle.commands.specs.Begins.{command_of};
 ghost use Rattle.carried.specs.Carrying.{RanTwice, CarriedTwice, ReadOutBy};
 

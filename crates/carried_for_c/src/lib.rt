@@ -1,6 +1,8 @@
 // Any command carried out by the functions for C: started into a lent buffer and, unless refused, run twice. The
 // contract says that these calls are as the theorem of `joined_for_c` asks, so the contracts of `delunkpawi_*` give what
 // it assumes.
+#![tactic(auto)]
+
 ghost use Rattle.std.specs.Prelude.{◌≡◌, length};
 ghost use Rattle.commands.specs.Begins.{command_of, start_result};
 ghost use Rattle.job_bytes.specs.Form.{job_size};

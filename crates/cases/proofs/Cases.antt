@@ -1,5 +1,5 @@
--- The quarry cases hold: `starred-hold` over the table of those that must be proved, `unstarred-hold` over the others.
--- Each row was computed with `fast-steps`; here the tables are carried to `steps`, the same function. Assumes nothing.
+-- The quarry cases hold: `starred_hold` over the table of those that must be proved, `unstarred_hold` over the others.
+-- Each row was computed with `fast_steps`; here the tables are carried to `steps`, the same function. Assumes nothing.
 use mathlib.Core.Path.{◌≡◌, subst}
 use mathlib.Core.Bool.{true}
 use mathlib.Core.List.{List}

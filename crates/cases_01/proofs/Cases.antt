@@ -1,4 +1,4 @@
--- Each row of document 01's cases 1 to 5 computed with `fast-steps`. Assumes nothing.
+-- Each row of document 01's cases 1 to 5 computed with `fast_steps`. Assumes nothing.
 use mathlib.Core.Path.{◌≡◌, refl}
 use mathlib.Core.Bool.{true}
 use Rattle.quarry.specs.Rows.{holds}

@@ -1,4 +1,4 @@
--- Each row of document 01's cases from 6 on computed with `fast-steps`. Assumes nothing.
+-- Each row of document 01's cases from 6 on computed with `fast_steps`. Assumes nothing.
 use mathlib.Core.Path.{◌≡◌, refl}
 use mathlib.Core.Bool.{true, false}
 use lib.ListN.{replicate}

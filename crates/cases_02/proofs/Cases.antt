@@ -1,4 +1,4 @@
--- Each row of the cases of document 02's requests computed with `fast-steps`. Assumes nothing.
+-- Each row of the cases of document 02's requests computed with `fast_steps`. Assumes nothing.
 use mathlib.Core.Path.{◌≡◌, refl}
 use mathlib.Core.Bool.{true}
 use Rattle.quarry.specs.Rows.{holds}

@@ -1,7 +1,9 @@
 // What C is told as numbers: a step, a judgement of a place, a test.
+#![tactic(auto)]
+
 pub mod steps; // a step as three numbers
 pub mod answers; // a number told, or a refusal
-pub mod names; // a name that has to fit
+pub mod name_room; // a name that has to fit
 pub mod judgements; // a judgement of a place as two, a test as one
 
 // A step's kind, its address and the byte programmed.

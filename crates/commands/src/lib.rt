@@ -1,4 +1,6 @@
 // The six commands, started on a lent image that is only read: an answer beside a job.
+#![tactic(auto)]
+
 mod beginning; // what a start returns by a draft
 
 ghost use Rattle.std.specs.Prelude.{◌≡◌, length};

@@ -1,4 +1,6 @@
 // Blocks compared: the two copies of one, or one with erased bytes.
+#![tactic(auto)]
+
 ghost use Rattle.std.specs.Prelude.{◌≡◌, ◌+◌, ◌≤◌, length, replicate};
 ghost use Rattle.rules.specs.Lists.{same};
 ghost use Rattle.rules.specs.Bytes.{block, block_size, erased_byte};

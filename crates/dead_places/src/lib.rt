@@ -1,8 +1,10 @@
 // The dead places of a pointer block p by a table t as lines of the listing: its second part.
+#![tactic(auto)]
+
 ghost use Rattle.std.specs.Prelude.{◌≡◌};
 ghost use Rattle.rules.specs.Lists.{any};
 ghost use Rattle.rules.specs.Table.{starts};
-ghost use Rattle.rules.specs.Pointers.{places as places-in, judged, is_dead};
+ghost use Rattle.rules.specs.Pointers.{places as places_in, judged, is_dead};
 ghost use Rattle.slots.specs.Inner.RowsOf.{HasRows};
 ghost use Rattle.places.specs.Inner.PlacesOf.{HasPlaces};
 ghost use Rattle.text.specs.Put.{Put};
@@ -15,7 +17,7 @@ use slots::Rows;
 // Nothing where no place is dead.
 pub fn put_dead(t: &[u8], rows: Rows, p: &[u8], places: Places, out: &mut [u8], at: usize) -> usize
     requires { HasRows t.now rows × HasPlaces p.now places }
-    ensures { Put out.old at (dead_part (starts t.now) (places-in p.now))
+    ensures { Put out.old at (dead_part (starts t.now) (places_in p.now))
         out.new result }
 {
     if !any_dead(t, rows, p, places) {
@@ -27,7 +29,7 @@ pub fn put_dead(t: &[u8], rows: Rows, p: &[u8], places: Places, out: &mut [u8], 
 
 fn any_dead(t: &[u8], rows: Rows, p: &[u8], places: Places) -> bool
     requires { HasRows t.now rows × HasPlaces p.now places }
-    ensures { result ≡ any (λ v. is_dead (judged (starts t.now) v)) (places-in p.now) }
+    ensures { result ≡ any (λ v. is_dead (judged (starts t.now) v)) (places_in p.now) }
 {
     let mut k = 0;
     while k < places.count {
@@ -57,7 +59,7 @@ fn is_dead(place: Place) -> bool
 fn put_lines(t: &[u8], rows: Rows, p: &[u8], places: Places, out: &mut [u8], at: usize) -> usize
     requires { HasRows t.now rows × HasPlaces p.now places }
     ensures { Put out.old at
-        (numbered (judged_line (starts t.now)) 0 (places-in p.now)) out.new result }
+        (numbered (judged_line (starts t.now)) 0 (places_in p.now)) out.new result }
 {
     let mut end = at;
     let mut next = 0;

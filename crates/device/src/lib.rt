@@ -1,4 +1,6 @@
 // The device: a stretch of the lent image erased, or programmed byte by byte.
+#![tactic(auto)]
+
 ghost use Rattle.std.specs.Prelude.{◌≡◌, [], ◌∷◌, ℕ, ◌+◌, ◌≤◌, length};
 ghost use Rattle.rules.specs.Steps.{wiped, steps, programs};
 

@@ -15,7 +15,7 @@ use Rattle.blocks.specs.Made.{Rewriting, rewrites, no_steps, pair_rewritten, pla
 
 -- for an image of this length and with this granule
 module _ (len granule : ℕ) where
-  -- both pointer blocks rewritten with a new order, as `reorder-steps`
+  -- both pointer blocks rewritten with a new order, as `reorder_steps`
   unfoldable pub reorder_job : ℕ → ℕ → List ℕ → List ℕ → List ℕ → Job
   reorder_job c0 c1 starts p o = pair_rewritten len granule c0 c1 (filled p (pointers_of starts o))
 
@@ -23,7 +23,7 @@ module _ (len granule : ℕ) where
   unfoldable pub in_places_job : ℕ → ℕ → List ℕ → List ℕ → List ℕ → Job
   in_places_job c0 c1 p ks v = places_written len granule (place_offset p) c1 c0 (place_list ks) v
 
-  -- as `enable-steps`
+  -- as `enable_steps`
   unfoldable pub enable_job : ℕ → ℕ → List ℕ → List ℕ → ℕ → Job
   enable_job c0 c1 starts p k =
       cond (is_first k (order starts (places p))) (no_steps len granule)
@@ -31,24 +31,24 @@ module _ (len granule : ℕ) where
       (in_places_job c0 c1 p (free_place starts (places p) ∷ []) (bytes_of 8 (get_or starts k 0)))
       (reorder_job c0 c1 starts p (k ∷ without k (order starts (places p)))))
 
-  -- as `disable-steps`
+  -- as `disable_steps`
   unfoldable pub disable_job : ℕ → ℕ → List ℕ → List ℕ → ℕ → Job
   disable_job c0 c1 starts p k =
       cond (half_cleared_names starts (get_or starts k 0))
       (reorder_job c0 c1 starts p (without k (order starts (places p))))
       (in_places_job c0 c1 p (giving starts k 0 (places p)) (bytes_of 8 0))
 
-  -- as `rename-steps`
+  -- as `rename_steps`
   unfoldable pub rename_job : ℕ → ℕ → List ℕ → ℕ → List ℕ → Job
   rename_job t0 t1 t k n =
       cond (has_already (entries t) k n) (no_steps len granule)
       (pair_rewritten len granule t0 t1 (put_name t (slot_row (entries t) k) n))
 
-  -- as `create-steps`
+  -- as `create_steps`
   unfoldable pub create_job : ℕ → ℕ → List ℕ → List ℕ → ℕ → ℕ → Job
   create_job t0 t1 t n start size = pair_rewritten len granule t0 t1 (with_new_row t n start size)
 
-  -- as `delete-steps`
+  -- as `delete_steps`
   unfoldable pub delete_job : ℕ → ℕ → List ℕ → ℕ → Job
   delete_job t0 t1 t k = pair_rewritten len granule t0 t1 (without_row t (slot_row (entries t) k))
 
@@ -57,7 +57,7 @@ unfoldable pub repaired : List ℕ → ℕ → ℕ → ℕ → Rewriting
 repaired img a0 a1 read =
     record { wanted = not (same (block img a0) (block img a1)); at = cond (eqb read a0) a1 a0; block = block img read }
 
--- as `repair-steps`
+-- as `repair_steps`
 unfoldable pub repair_job : ℕ → List ℕ → View → Job
 repair_job granule img v =
     rewrites (length img) granule

@@ -1,5 +1,7 @@
 // A command's draft: its refusal, or its job in short, with the bytes that it writes in a room lent beside it. What
 // several commands share: refusals 6 and 7, the places that give a slot, bytes into places.
+#![tactic(auto)]
+
 pub mod refusals; // refusals 6 and 7
 pub mod givings; // the places that give a slot
 

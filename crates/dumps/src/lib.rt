@@ -1,4 +1,6 @@
 // Two pointer-block dumps that a technician hands in: the one that stands, as a part of his own buffer.
+#![tactic(auto)]
+
 ghost use Rattle.std.specs.Prelude.{◌≡◌};
 ghost use Rattle.rules.specs.Copies.{dump_stands, standing_dump};
 

@@ -1,4 +1,6 @@
 // The entries of a sub-partition table, 4,096 bytes lent as a slice, by entry number and by name.
+#![tactic(auto)]
+
 ghost use Rattle.std.specs.Prelude.{◌≡◌, ◌+◌, ◌*◌, ◌≤◌, ◌<◌, eqb, length, drop};
 ghost use Rattle.rules.specs.Bytes.{field, block_size, up_to_zero};
 ghost use Rattle.rules.specs.Table.{entry_count, rows, has_name, named};

@@ -1,4 +1,6 @@
 // Little-endian fields of lent bytes, and the part of an image that is a block.
+#![tactic(auto)]
+
 ghost use Rattle.std.specs.Prelude.{◌≡◌, ◌+◌, ◌*◌, ◌≤◌, ◌<◌, eqb, length};
 ghost use Rattle.rules.specs.Bytes.{field, block, block_size};
 ghost use Rattle.walks.specs.Four.{one_of_four};

@@ -27,7 +27,7 @@ unfoldable pub started_into : List ℕ → StartResult → Handed
 started_into before b =
     cond (eqb (length before) job_size) (handed_over before b.job b.answer) (handed malformed before)
 
--- ---- the same by the listed steps, as theorem `begun-holds` has it
+-- ---- the same by the listed steps, as theorem `begun_holds` has it
 
 -- refused 90 where the buffer has another length than a job's
 unfoldable pub for_job : List ℕ → Answer (List Step) → Answer (List Step)

@@ -1,4 +1,6 @@
 // A command started into a lent buffer: its job as bytes there, or its refusal.
+#![tactic(auto)]
+
 ghost use Rattle.std.specs.Prelude.{◌≡◌, length};
 ghost use Rattle.rules.specs.Bytes.{block_size};
 ghost use Rattle.rules.specs.Numbers.{setting};

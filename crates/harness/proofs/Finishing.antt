@@ -28,7 +28,7 @@ use Rattle.commands.specs.Begins.{command_of, Begins}
 use Rattle.commands.specs.declared.StartResult.{StartResult}
 use Rattle.commands.specs.declared.Command.{Command as Asked}
 use Rattle.commands.proofs.NameLent.{bytes_lent}
-use Rattle.drafts.specs.declared.Outcome.TheVariants.{Started, Refused as Not_started}
+use Rattle.drafts.specs.declared.Outcome.TheVariants.{Started, Refused as NotStarted}
 use Rattle.book_entries.specs.Tables.{new_name}
 use Rattle.harness.specs.Finished.{finished, left_finished, told, done_by, left_by, done_after, left_after, done_begun, left_begun}
 use Rattle.harness.specs.declared.Done.{Done}
@@ -58,7 +58,7 @@ ran_all (suc n) j img after r d (m, p) some e = (
 )
 
 module _ (b : StartResult) (img : List ℕ) where
-  pub start_refused : (why : Refusal) → b.answer ≡ Not_started why
+  pub start_refused : (why : Refusal) → b.answer ≡ NotStarted why
       → (Refused why ≡ done_begun b img) × (img ≡ left_begun b img)
   unfolding done_begun left_begun
   start_refused why e = (rw e (unfold done_after in refl), rw e (unfold left_after in refl))

@@ -6,10 +6,10 @@ use Rattle.rules.specs.declared.Step.{Step}
 use Rattle.jobs.specs.Jobs.{did_by_run, image_after_run, steps_left}
 use Rattle.jobs.specs.declared.Job.{Job}
 use Rattle.jobs.specs.declared.Did.{Did}
-use Rattle.jobs.specs.declared.Did.TheVariants.{Steps as Did_steps, Refused as Did_refused}
+use Rattle.jobs.specs.declared.Did.TheVariants.{Steps as DidSteps, Refused as DidRefused}
 use Rattle.commands.specs.declared.StartResult.{StartResult}
 use Rattle.drafts.specs.declared.Outcome.{Outcome}
-use Rattle.drafts.specs.declared.Outcome.TheVariants.{Started, Refused as Not_started}
+use Rattle.drafts.specs.declared.Outcome.TheVariants.{Started, Refused as NotStarted}
 use Rattle.harness.specs.declared.Done.{Done}
 use Rattle.harness.specs.declared.Done.TheVariants.{Steps, Refused}
 
@@ -28,8 +28,8 @@ left_finished g img (given ss) = steps g ss img
 -- ---- a job of which so many steps remain
 
 unfoldable pub told : Did → Done
-told (Did_steps n) = Steps n
-told (Did_refused why) = Refused why
+told (DidSteps n) = Steps n
+told (DidRefused why) = Refused why
 
 unfoldable pub done_by : ℕ → Job → List ℕ → Done
 done_by zero j img = Steps 0
@@ -40,11 +40,11 @@ left_by zero j img = img
 left_by (suc n) j img = image_after_run j (suc n) img
 
 unfoldable pub done_after : Outcome → Job → List ℕ → Done
-done_after (Not_started why) j img = Refused why
+done_after (NotStarted why) j img = Refused why
 done_after Started j img = done_by (steps_left j) j img
 
 unfoldable pub left_after : Outcome → Job → List ℕ → List ℕ
-left_after (Not_started why) j img = img
+left_after (NotStarted why) j img = img
 left_after Started j img = left_by (steps_left j) j img
 
 -- the same of what a start returned

@@ -1,4 +1,6 @@
 // A command on an image in memory, run to its end or cut, for the programs that try the commands on real bytes.
+#![tactic(auto)]
+
 pub mod tearing; // a half-done erase
 
 ghost use Rattle.std.specs.Prelude.{◌≡◌};

@@ -1,4 +1,6 @@
 // The job that lent bytes hold: its run, steps carried out elsewhere, what remains of it.
+#![tactic(auto)]
+
 ghost use Rattle.std.specs.Prelude.{◌≡◌, true, length};
 ghost use Rattle.rules.specs.Bytes.{field};
 ghost use Rattle.rules.specs.Answers.{given};

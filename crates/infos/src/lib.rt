@@ -1,4 +1,6 @@
 // What is told of a slot or of an entry by a table.
+#![tactic(auto)]
+
 pub mod slot; // one slot, and refusal 7
 pub mod entry; // one entry, slot or not, and refusal 92
 

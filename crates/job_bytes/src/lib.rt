@@ -1,4 +1,6 @@
 // A job as bytes in a lent buffer, for callers that hold no value of this language.
+#![tactic(auto)]
+
 pub mod encoding; // a job into bytes
 
 // The length of a buffer that holds a job.

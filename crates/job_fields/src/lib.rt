@@ -1,4 +1,6 @@
 // What the bytes that hold a job say: whether they hold one, its plan, and how many steps are done.
+#![tactic(auto)]
+
 ghost use Rattle.std.specs.Prelude.{◌≡◌, length};
 ghost use Rattle.rules.specs.Bytes.{field};
 ghost use Rattle.job_bytes.specs.Form.{job_size, done_at, kind_numbered, plan_from, holds_job};

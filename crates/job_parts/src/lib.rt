@@ -1,5 +1,7 @@
 // The two parts of a job: how many steps are listed, and of these, those from one on: whether they stay inside an image,
 // done, and which comes next.
+#![tactic(auto)]
+
 ghost use Rattle.std.specs.Prelude.{◌≡◌, true, ◌+◌, ◌*◌, ◌≤◌, min, length, drop};
 ghost use Rattle.rules.specs.Steps.{steps};
 ghost use Rattle.part_steps.specs.Parts.{place_room, meant, first_step};

@@ -1,5 +1,7 @@
 // A job: the list of steps of a command, by value. Running it, what remains of it, which step comes next, steps that
 // were carried out elsewhere.
+#![tactic(auto)]
+
 ghost use Rattle.std.specs.Prelude.{◌≡◌, ◌-◌};
 ghost use Rattle.jobs.specs.Jobs.{RanBy, returned, lent, did_by_run, image_after_run, steps_left, next_of, counted, counting};
 ghost use Rattle.job_parts.specs.Inner.Parts.{Sized, listed_length};

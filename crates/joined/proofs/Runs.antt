@@ -11,7 +11,7 @@ use Rattle.rules.specs.Answers.{Answer, refused, given, unless}
 use Rattle.rules.specs.Steps.{steps}
 use Rattle.rules.specs.Cuts.{Progress, run, may_run, runs}
 use Rattle.rules.specs.declared.Step.{Step}
-use Rattle.rules.proofs.Steps.Cutting.{under_way as Started_with}
+use Rattle.rules.proofs.Steps.Cutting.{under_way as started_with}
 use Rattle.jobs.specs.Jobs.{steps_of, under_way, admitted, ran, progress_after, RanBy}
 use Rattle.jobs.specs.declared.Job.{Job}
 use Rattle.job_parts.specs.declared.Plan.{Plan}
@@ -34,7 +34,7 @@ unfolding ran
 plan_kept j n (refused why) = refl
 plan_kept j n (given p) = refl
 
-run_of_none : (g n : ℕ) (img : List ℕ) → run g n (Started_with img []) ≡ Started_with img []
+run_of_none : (g n : ℕ) (img : List ℕ) → run g n (started_with img []) ≡ started_with img []
 unfolding run steps
 run_of_none g zero img = refl
 run_of_none g (suc n) img = refl
@@ -48,7 +48,7 @@ one_run j img n a = by_left (steps_of j) refl
   where
     by_left : (l : List Step)
         → steps_of j ≡ l
-        → progress_after j n img (admitted j img) ≡ run j.plan.granule n (Started_with img (steps_of j))
+        → progress_after j n img (admitted j img) ≡ run j.plan.granule n (started_with img (steps_of j))
     by_left [] e = rw (a, e, e) (sym (run_of_none j.plan.granule n img))
     by_left (s ∷ l) e = rw (a, e, lt-ltb 0 (suc (length l)) (omega arith))
 
@@ -76,26 +76,26 @@ module _ (g len : ℕ) where
 -- of a job that lists these steps, none of them done, runs leave the image and the steps that the book's runs leave
 pub runs_of_job : (g : ℕ) (ss : List Step) (j : Job) (img : List ℕ) (rs : List Run)
     → Lists j (length img) g ss
-    → OnlyRefused11 g (length img) (Started_with img ss)
+    → OnlyRefused11 g (length img) (started_with img ss)
     → AllRan j img rs
-    → left_by_runs j img rs ≡ runs g (budgets_of rs) (Started_with img ss)
+    → left_by_runs j img rs ≡ runs g (budgets_of rs) (started_with img ss)
 unfolding under_way
 runs_of_job g ss j img rs lists only =
-    from_progress g (length img) rs j img (Started_with img ss) (rw lists.steps) lists.same_len
+    from_progress g (length img) rs j img (started_with img ss) (rw lists.steps) lists.same_len
     lists.same_granule only
 
 -- ---- beside a refusal: the job of no steps
 
-runs_of_none : (g : ℕ) (ns : List ℕ) (img : List ℕ) → runs g ns (Started_with img []) ≡ Started_with img []
+runs_of_none : (g : ℕ) (ns : List ℕ) (img : List ℕ) → runs g ns (started_with img []) ≡ started_with img []
 unfolding runs
 runs_of_none g [] img = refl
 runs_of_none g (n ∷ ns) img = rw (run_of_none g n img) (runs_of_none g ns img)
 
 pub nothing_done : (img : List ℕ) (rs : List Run)
     → AllRan no_job img rs
-    → left_by_runs no_job img rs ≡ Started_with img []
+    → left_by_runs no_job img rs ≡ started_with img []
 nothing_done img rs went =
-    from_progress 0 0 rs no_job img (Started_with img []) (unfold under_way in rw no_job_sound.lists.steps)
+    from_progress 0 0 rs no_job img (started_with img []) (unfold under_way in rw no_job_sound.lists.steps)
     no_job_sound.lists.same_len no_job_sound.lists.same_granule
     (λ ns. rw (runs_of_none 0 ns img) (unfold may_run unless in refl)) went
     ∙ runs_of_none 0 (budgets_of rs) img

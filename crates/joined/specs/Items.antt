@@ -27,7 +27,7 @@ unfoldable pub BegunSo : StartResult → ℕ → ℕ → Answer (List Step) → 
 BegunSo b len g (refused why) = (told : Refusal) × (b ≡ refusal told) × (told.number ≡ why.number)
 BegunSo b len g (given ss) = (b.answer ≡ Started) × Lists b.job len g ss
 
--- it is as the contracts of the start and of `jobs::run` say, from this flash. Of a start nothing but `begun-so` is used
+-- it is as the contracts of the start and of `jobs::run` say, from this flash. Of a start nothing but `BegunSo` is used
 unfoldable pub CarriedOut : Setting → List ℕ → Carried → Type 0
 CarriedOut s img c =
     BegunSo c.begun (length img) s.granule (start s img c.command) × AllRan c.begun.job img c.runs

@@ -12,8 +12,7 @@ ghost use Rattle.reads_for_c.specs.Told.{CountTold, ViewTold, CopiesTold, Faults
 use rules::{EntryNo, PlaceNo, Setting};
 
 // Where the pointer blocks are, and which copies of table and pointer block are read.
-#[unsafe(no_mangle)]
-pub extern "C" fn delunkpawi_view(
+pub fn delunkpawi_view(
     image: &[u8],
     granule: usize,
     spt0: usize,
@@ -38,8 +37,7 @@ pub extern "C" fn delunkpawi_view(
 }
 
 // For each of the four blocks 1 if it stands, for each pair 1 if it agrees, else 0.
-#[unsafe(no_mangle)]
-pub extern "C" fn delunkpawi_copies(
+pub fn delunkpawi_copies(
     image: &[u8],
     granule: usize,
     spt0: usize,
@@ -71,8 +69,7 @@ pub extern "C" fn delunkpawi_copies(
 
 // For each of SPT0 and SPT1 the first broken rule, 1 to 11, and the entry that breaks it, 127 where the rule is about no
 // entry by itself; 0 and 127 for a copy that stands. Refused 1 to 3 only.
-#[unsafe(no_mangle)]
-pub extern "C" fn delunkpawi_table_faults(
+pub fn delunkpawi_table_faults(
     image: &[u8],
     granule: usize,
     spt0: usize,
@@ -97,8 +94,7 @@ pub extern "C" fn delunkpawi_table_faults(
 }
 
 // How many entries the table read has.
-#[unsafe(no_mangle)]
-pub extern "C" fn delunkpawi_entry_count(
+pub fn delunkpawi_entry_count(
     image: &[u8],
     granule: usize,
     spt0: usize,
@@ -117,8 +113,7 @@ pub extern "C" fn delunkpawi_entry_count(
 
 // The name of an entry up to its zero into the front of the lent bytes, its length, and the entry's start, length and
 // flags; 91 where the lent bytes are too few.
-#[unsafe(no_mangle)]
-pub extern "C" fn delunkpawi_entry(
+pub fn delunkpawi_entry(
     image: &[u8],
     granule: usize,
     spt0: usize,
@@ -155,8 +150,7 @@ pub extern "C" fn delunkpawi_entry(
 }
 
 // How many places the pointer block read has.
-#[unsafe(no_mangle)]
-pub extern "C" fn delunkpawi_place_count(
+pub fn delunkpawi_place_count(
     image: &[u8],
     granule: usize,
     spt0: usize,
@@ -174,8 +168,7 @@ pub extern "C" fn delunkpawi_place_count(
 }
 
 // What a place holds: 0 for erased, 1 for live with its slot, 2 for spent, 3 for part-written, 4 for stray; and its value.
-#[unsafe(no_mangle)]
-pub extern "C" fn delunkpawi_place(
+pub fn delunkpawi_place(
     image: &[u8],
     granule: usize,
     spt0: usize,

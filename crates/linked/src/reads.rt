@@ -8,8 +8,7 @@ ghost use Rattle.reads_for_c.specs.Told.{CountTold, SlotTold};
 use rules::{Setting, SlotNo};
 
 // The boot order's slot numbers into the front of the row, and how many there are.
-#[unsafe(no_mangle)]
-pub extern "C" fn delunkpawi_order(
+pub fn delunkpawi_order(
     image: &[u8],
     granule: usize,
     spt0: usize,
@@ -29,8 +28,7 @@ pub extern "C" fn delunkpawi_order(
 }
 
 // How many application slots there are.
-#[unsafe(no_mangle)]
-pub extern "C" fn delunkpawi_slot_count(
+pub fn delunkpawi_slot_count(
     image: &[u8],
     granule: usize,
     spt0: usize,
@@ -48,8 +46,7 @@ pub extern "C" fn delunkpawi_slot_count(
 }
 
 // The entry number, start, length and flags of a slot.
-#[unsafe(no_mangle)]
-pub extern "C" fn delunkpawi_slot_facts(
+pub fn delunkpawi_slot_facts(
     image: &[u8],
     granule: usize,
     spt0: usize,
@@ -75,8 +72,7 @@ pub extern "C" fn delunkpawi_slot_facts(
 }
 
 // The name of a slot up to its zero into the front of the lent bytes, and its length; 91 where they are too few.
-#[unsafe(no_mangle)]
-pub extern "C" fn delunkpawi_slot_name(
+pub fn delunkpawi_slot_name(
     image: &[u8],
     granule: usize,
     spt0: usize,

@@ -10,16 +10,14 @@ use commands::Command;
 use rules::SlotNo;
 
 // The length of a buffer for a job.
-#[unsafe(no_mangle)]
-pub extern "C" fn delunkpawi_job_size() -> usize
+pub fn delunkpawi_job_size() -> usize
     ensures { result ≡ job_size }
 {
     job_bytes::JOB_SIZE
 }
 
 // Enable a slot: it comes first in the boot order.
-#[unsafe(no_mangle)]
-pub extern "C" fn delunkpawi_enable(
+pub fn delunkpawi_enable(
     image: &[u8],
     granule: usize,
     spt0: usize,
@@ -35,8 +33,7 @@ pub extern "C" fn delunkpawi_enable(
 }
 
 // Disable a slot: it leaves the boot order.
-#[unsafe(no_mangle)]
-pub extern "C" fn delunkpawi_disable(
+pub fn delunkpawi_disable(
     image: &[u8],
     granule: usize,
     spt0: usize,
@@ -52,8 +49,7 @@ pub extern "C" fn delunkpawi_disable(
 }
 
 // Rename a slot.
-#[unsafe(no_mangle)]
-pub extern "C" fn delunkpawi_rename(
+pub fn delunkpawi_rename(
     image: &[u8],
     granule: usize,
     spt0: usize,
@@ -71,8 +67,7 @@ pub extern "C" fn delunkpawi_rename(
 }
 
 // Create a slot of a length: it comes last in the table, at the lowest start that is free and that no place holds.
-#[unsafe(no_mangle)]
-pub extern "C" fn delunkpawi_create(
+pub fn delunkpawi_create(
     image: &[u8],
     granule: usize,
     spt0: usize,
@@ -90,8 +85,7 @@ pub extern "C" fn delunkpawi_create(
 }
 
 // Delete a slot that is not in the boot order: the slots after it are one number lower.
-#[unsafe(no_mangle)]
-pub extern "C" fn delunkpawi_delete(
+pub fn delunkpawi_delete(
     image: &[u8],
     granule: usize,
     spt0: usize,
@@ -107,8 +101,7 @@ pub extern "C" fn delunkpawi_delete(
 }
 
 // Repair: where a pair disagrees, the copy not read becomes the copy read.
-#[unsafe(no_mangle)]
-pub extern "C" fn delunkpawi_repair(
+pub fn delunkpawi_repair(
     image: &[u8],
     granule: usize,
     spt0: usize,

@@ -1,15 +1,16 @@
 // Prints the listing of the image on standard input: its boot order, then its dead places.
-use libc::{STDIN_FILENO, STDOUT_FILENO};
+#![tactic(auto)]
 
-// Room for one byte more than an image may have, so that a longer one is seen.
-fn image_buffer() -> [u8; 65537] {
-    [0; 65537]
-}
+use std::io;
+use std::io::{Read, Write};
 
-fn main() {
-    let mut image = image_buffer();
-    let n = io::read_full(STDIN_FILENO, &mut image);
-    let mut out = io::large_buffer();
-    let end = report::listing_of(&image[..n], &mut out);
-    io::write_all(STDOUT_FILENO, &out[..end]);
+// One byte more than an image may have, so that a longer one is seen.
+const ROOM: u64 = 65537;
+
+fn main(rt: HostRuntime) -> io::Result<()> {
+    let mut image = Vec::new(rt.alloc());
+    rt.reader().take(ROOM).read_to_end(&mut image)?;
+    let mut out = [0u8; 65536];
+    let end = report::listing_of(&image, &mut out);
+    io::writer(&rt).write_all(&out[..end])
 }

@@ -1,38 +1,46 @@
 // Prints, for each file that an argument names, the name and the listing of the image in it.
-use libc::STDOUT_FILENO;
+#![tactic(auto)]
 
-// Room for one byte more than an image may have, so that a longer one is seen.
-fn image_buffer() -> [u8; 65537] {
-    [0; 65537]
+use std::env::FillError;
+use std::fs::File;
+use std::io::Read;
+use std::rt::{Env, Files};
+use std::{io, str};
+
+// One byte more than an image may have, so that a longer one is seen.
+const ROOM: u64 = 65537;
+
+fn list_image<R: Read>(rt: &(impl Alloc + Print), file: &mut R) -> io::Result<()> {
+    let mut image = Vec::new(rt.alloc());
+    file.by_ref().take(ROOM).read_to_end(&mut image)?;
+    let mut out = [0u8; 65536];
+    let end = report::listing_of(&image, &mut out);
+    rt.write_all(&out[..end])
 }
 
-fn list_image(fd: i32) {
-    let mut image = image_buffer();
-    let n = io::read_full(fd, &mut image);
-    let mut out = io::large_buffer();
-    let end = report::listing_of(&image[..n], &mut out);
-    io::write_all(STDOUT_FILENO, &out[..end]);
-}
-
-fn list_file(argument: usize) {
-    let mut path = io::buffer();
-    let length = os::arg(argument, &mut path);
-    io::write_all(STDOUT_FILENO, &path[..length]);
-    io::write_all(STDOUT_FILENO, b"\n");
-    let fd = os::open_read(&path[..length]);
-    if fd < 0 {
-        os::fail(&path[..length]);
-        return;
+// A name that is not UTF-8 opens no file.
+fn list_file(rt: &(impl Files + Alloc + Print + Eprint), path: &[u8]) -> io::Result<()> {
+    rt.write_all(path)?;
+    println!(rt;)?;
+    let name = match str::from_utf8(path) {
+        Ok(name) => name,
+        Err(error) => return eprintln!(rt; "{error}"),
+    };
+    match File::open(rt, name) {
+        Ok(mut file) => list_image(rt, &mut file),
+        Err(error) => eprintln!(rt; "{name}: {error}"),
     }
-    list_image(fd);
-    libc::close(fd);
 }
 
-fn main() {
-    let count = os::arg_count();
-    let mut i = 1;
-    while i < count {
-        list_file(i);
-        i += 1;
+fn main(rt: HostRuntime) -> io::Result<()> {
+    let mut path = [0u8; 4096];
+    for i in 1..usize::MAX {
+        match rt.arg(i, &mut path) {
+            Ok(length) => list_file(&rt, &path[..length])?,
+            // no path is so long
+            Err(FillError::TooLong) => list_file(&rt, b"")?,
+            Err(FillError::NotPresent) => break,
+        }
     }
+    Ok(())
 }

@@ -1,5 +1,7 @@
 // Names up to their zero byte: the six fixed ones, how long one is, and whether two are the same. The length of a word or
 // of a line, which end at another byte, is found in the same way.
+#![tactic(auto)]
+
 ghost use Rattle.std.specs.Prelude.{◌≡◌, ◌≤◌, eqb, length, get_or};
 ghost use Rattle.rules.specs.Lists.{same, member};
 ghost use Rattle.rules.specs.Bytes.{up_to_zero};

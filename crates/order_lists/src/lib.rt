@@ -1,4 +1,6 @@
 // The boot order by a table and a pointer block, listed into a lent row, and refusal 13.
+#![tactic(auto)]
+
 ghost use Rattle.std.specs.Prelude.{◌≡◌, leb, length};
 ghost use Rattle.rules.specs.Table.{entry_count};
 ghost use Rattle.rules.specs.Copies.{order_by};

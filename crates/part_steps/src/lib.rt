@@ -1,5 +1,7 @@
 // What one part of a job does on the bytes of an image: of its steps those in a window, whether they stay inside, and
 // which comes next.
+#![tactic(auto)]
+
 use rules::Step;
 
 pub mod into_places; // eight bytes into each of some places

@@ -1,4 +1,6 @@
 // What is told of a place of a pointer block, and refusal 93.
+#![tactic(auto)]
+
 ghost use Rattle.std.specs.Prelude.{◌≡◌};
 ghost use Rattle.rules.specs.Table.{entry_count};
 ghost use Rattle.walks.specs.Entries.{HasEntries};

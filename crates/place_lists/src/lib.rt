@@ -1,4 +1,6 @@
 // The places of a pointer block p by a table t: the slot that comes first, and the places that give a slot.
+#![tactic(auto)]
+
 ghost use Rattle.std.specs.Prelude.{◌≡◌, [], ◌∷◌, ◌*◌, ◌<◌, length, get_or};
 ghost use Rattle.rules.specs.Table.{starts};
 ghost use Rattle.rules.specs.Pointers.{judged, gives};

@@ -1,5 +1,7 @@
 // Walks over the places of a pointer block: the lowest free place, whether a higher place has a value, and what a place
 // adds to the boot order.
+#![tactic(auto)]
+
 ghost use Rattle.std.specs.Prelude.{◌≡◌, true, false, not, ◌+◌, ◌≤◌, ◌<◌, eqb, drop};
 ghost use Rattle.rules.specs.Lists.{all};
 ghost use Rattle.rules.specs.Table.{starts};

@@ -1,4 +1,6 @@
 // A pointer block: whether it stands, the values of its places, and what a place holds by a table.
+#![tactic(auto)]
+
 ghost use Rattle.std.specs.Prelude.{◌≡◌, ◌+◌, ◌-◌, ◌/◌, ◌≤◌, ◌<◌, length};
 ghost use Rattle.rules.specs.Bytes.{block, block_size};
 ghost use Rattle.rules.specs.Table.{starts};

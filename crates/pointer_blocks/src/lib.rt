@@ -1,4 +1,6 @@
 // A pointer block p made up anew by a table t, into the room lent for it: the order without a slot, or with it in front.
+#![tactic(auto)]
+
 ghost use Rattle.std.specs.Prelude.{◌≡◌, true, [], ◌∷◌, ◌<◌, length, get_or};
 ghost use Rattle.rules.specs.Lists.{without};
 ghost use Rattle.rules.specs.Bytes.{block_size};

@@ -5,6 +5,8 @@
 // is finished. A line for each command says how many cuts there were, how many left the old reading, the new one or
 // another, after how many the repair kept the reading and made the pairs agree, and after how many the further command
 // then left what the book says.
+#![tactic(auto)]
+
 ghost use Rattle.std.specs.Prelude.{◌≡◌, length};
 
 use book::{Book, Read};
@@ -12,8 +14,11 @@ use commands::Command;
 use harness::Done;
 use harness::tearing::Choice;
 use jobs::{Job, Next};
-use libc::STDOUT_FILENO;
 use rules::{Setting, SlotNo, Step};
+use std::fs::File;
+use std::io;
+use std::io::Read as _;
+use std::rt::Files;
 use tally::Tally;
 
 mod choices;
@@ -115,8 +120,7 @@ fn try_erase(
 ) -> Tally {
     let count = choices::count(setting.granule);
     let mut sum = t;
-    let mut i = 0;
-    while i < count {
+    for i in 0..count {
         sum = try_cut(
             flash,
             work,
@@ -127,7 +131,6 @@ fn try_erase(
             new,
             sum,
         );
-        i += 1;
     }
     sum
 }
@@ -173,17 +176,22 @@ fn try_job(
     let count = jobs::remaining(first);
     let mut job = first;
     let mut sum = tally::nothing();
-    let mut n = 0;
-    while n < count {
+    for _ in 0..count {
         sum = try_next(flash, work, setting, jobs::next_step(job), old, new, sum);
         job = one_step(job, flash);
-        n += 1;
     }
     sum
 }
 
 // Starts a command on an image, and tries every cut of its job on a flash that starts as this image.
-fn try_start(image: &[u8], flash: &mut [u8], work: &mut [u8], setting: Setting, command: Command) {
+fn try_start(
+    rt: &impl Print,
+    image: &[u8],
+    flash: &mut [u8],
+    work: &mut [u8],
+    setting: Setting,
+    command: Command,
+) -> io::Result<()> {
     copy(image, flash);
     let read = book::read_book(image, setting);
     let old = read.book;
@@ -198,78 +206,82 @@ fn try_start(image: &[u8], flash: &mut [u8], work: &mut [u8], setting: Setting, 
         old,
         book::booked(old, command, image, setting),
     );
-    printing::print_result(answer, jobs::remaining(job), sum);
+    printing::print_result(rt, answer, jobs::remaining(job), sum)
 }
 
-fn try_command(image: &[u8], setting: Setting, command: Command) {
+fn try_command(
+    rt: &impl Print,
+    image: &[u8],
+    setting: Setting,
+    command: Command,
+) -> io::Result<()> {
     let n = image.len();
     if LONGEST < n {
-        return;
+        return Ok(());
     }
     let mut flash = image_buffer();
     let mut work = image_buffer();
-    try_start(image, &mut flash[..n], &mut work[..n], setting, command);
+    try_start(rt, image, &mut flash[..n], &mut work[..n], setting, command)
 }
 
 // ---- all of them
 
-fn try_slot(image: &[u8], setting: Setting, slot: SlotNo) {
-    printing::print_command(b"enable ", slot);
-    try_command(image, setting, Command::Enable(slot));
-    printing::print_command(b"disable ", slot);
-    try_command(image, setting, Command::Disable(slot));
-    printing::print_command(b"rename ", slot);
-    try_command(image, setting, Command::Rename(slot));
-    printing::print_command(b"delete ", slot);
-    try_command(image, setting, Command::Delete(slot));
+fn try_slot(rt: &impl Print, image: &[u8], setting: Setting, slot: SlotNo) -> io::Result<()> {
+    printing::print_command(rt, "enable", slot)?;
+    try_command(rt, image, setting, Command::Enable(slot))?;
+    printing::print_command(rt, "disable", slot)?;
+    try_command(rt, image, setting, Command::Disable(slot))?;
+    printing::print_command(rt, "rename", slot)?;
+    try_command(rt, image, setting, Command::Rename(slot))?;
+    printing::print_command(rt, "delete", slot)?;
+    try_command(rt, image, setting, Command::Delete(slot))
 }
 
-fn try_image(image: &[u8], setting: Setting) {
-    try_slot(image, setting, SlotNo(0));
-    try_slot(image, setting, SlotNo(1));
-    try_slot(image, setting, SlotNo(2));
-    io::write_all(STDOUT_FILENO, b"create 4096: ");
-    try_command(image, setting, Command::Create(4096));
-    io::write_all(STDOUT_FILENO, b"repair: ");
-    try_command(image, setting, Command::Repair);
+fn try_image(rt: &impl Print, image: &[u8], setting: Setting) -> io::Result<()> {
+    try_slot(rt, image, setting, SlotNo(0))?;
+    try_slot(rt, image, setting, SlotNo(1))?;
+    try_slot(rt, image, setting, SlotNo(2))?;
+    print!(rt; "create 4096: ")?;
+    try_command(rt, image, setting, Command::Create(4096))?;
+    print!(rt; "repair: ")?;
+    try_command(rt, image, setting, Command::Repair)
 }
 
-fn try_file(path: &[u8], setting: Setting) {
-    printing::print_image(path, choices::count(setting.granule));
-    let mut image = image_buffer();
-    let fd = os::open_read(path);
-    let n = io::read_full(fd, &mut image);
-    libc::close(fd);
-    try_image(&image[..n], setting);
+fn try_file(rt: &(impl Files + Alloc + Print), path: &str, setting: Setting) -> io::Result<()> {
+    printing::print_image(rt, path, choices::count(setting.granule))?;
+    let mut image = Vec::new(rt.alloc());
+    let mut file = File::open(rt, path)?;
+    file.by_ref().take(LONGEST as u64).read_to_end(&mut image)?;
+    try_image(rt, &image, setting)
 }
 
-fn main() {
+fn main(rt: HostRuntime) -> io::Result<()> {
     let setting = Setting {
         granule: SMALLEST,
         spt0: 0x4000,
         spt1: 0x5000,
     };
-    try_file(b"quarry_sent.img", setting);
-    try_file(b"highest_506.img", setting);
-    try_file(b"highest_507.img", setting);
-    try_file(b"moved_sent.img", setting);
-    try_file(b"moved_three.img", setting);
-    try_file(b"first_copies_damaged.img", setting);
-    try_file(b"second_copies_damaged.img", setting);
-    try_file(b"four_places.img", setting);
-    try_file(b"moved_offset_2048.img", setting);
-    try_file(b"two_shapes.img", setting);
-    try_file(b"deleted.img", setting);
+    try_file(&rt, "quarry_sent.img", setting)?;
+    try_file(&rt, "highest_506.img", setting)?;
+    try_file(&rt, "highest_507.img", setting)?;
+    try_file(&rt, "moved_sent.img", setting)?;
+    try_file(&rt, "moved_three.img", setting)?;
+    try_file(&rt, "first_copies_damaged.img", setting)?;
+    try_file(&rt, "second_copies_damaged.img", setting)?;
+    try_file(&rt, "four_places.img", setting)?;
+    try_file(&rt, "moved_offset_2048.img", setting)?;
+    try_file(&rt, "two_shapes.img", setting)?;
+    try_file(&rt, "deleted.img", setting)?;
     let middle = Setting {
         granule: 32768,
         spt0: 0x10000,
         spt1: 0x18000,
     };
-    try_file(b"middle.img", middle);
+    try_file(&rt, "middle.img", middle)?;
     let wide = Setting {
         granule: 65536,
         spt0: 0x20000,
         spt1: 0x30000,
     };
-    try_file(b"wide.img", wide);
+    try_file(&rt, "wide.img", wide)
 }

@@ -23,7 +23,7 @@ pub fn nothing() -> Tally {
 
 fn one_more(n: u64, test: bool) -> u64 {
     if test {
-        return std::num::wrapping_add_u64(n, 1);
+        return n.wrapping_add(1);
     }
     n
 }

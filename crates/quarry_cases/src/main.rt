@@ -1,24 +1,21 @@
 // Runs the cases of document 01, and of document 02, Nos. 2, 9 and 5, on the images under data/ and prints what happens.
-ghost use Rattle.std.specs.Prelude.{◌≡◌, length};
+#![tactic(auto)]
 
 use commands::Command;
-use libc::STDOUT_FILENO;
 use rules::{EntryNo, PlaceNo, Setting, SlotNo};
+use std::fs::File;
+use std::io;
+use std::io::Read;
+use std::rt::Files;
 
 mod printing;
 
 // The length of the longest of the images.
-const LONGEST: usize = 528384;
+const LONGEST: u64 = 528384;
 
 const CPB0: usize = 0x6000;
 
 const CPB1: usize = 0x7000;
-
-fn image_buffer() -> [u8; LONGEST]
-    ensures { 528384 ≡ length result }
-{
-    [0; LONGEST]
-}
 
 fn quarry() -> Setting {
     Setting {
@@ -31,118 +28,118 @@ fn quarry() -> Setting {
 // ---- what the cases do
 
 // Starts a command, does all its steps and prints how many, or the refusal.
-fn finish(image: &mut [u8], command: Command) {
-    printing::print_command(command);
-    printing::print_done(harness::finish(image, quarry(), command));
+fn finish(rt: &impl Print, image: &mut [u8], command: Command) -> io::Result<()> {
+    printing::print_command(rt, command)?;
+    printing::print_done(rt, harness::finish(image, quarry(), command))
 }
 
-fn finish_rename(image: &mut [u8], name: &[u8]) {
+fn finish_rename(rt: &impl Print, image: &mut [u8], name: &[u8]) -> io::Result<()> {
     let begun = commands::start_rename(image, quarry(), SlotNo(0), name);
-    io::write_all(STDOUT_FILENO, b"rename 0 ");
-    io::write_all(STDOUT_FILENO, name);
-    io::write_all(STDOUT_FILENO, b": ");
-    printing::print_done(harness::run_begun(image, begun));
+    print!(rt; "rename 0 ")?;
+    rt.write_all(name)?;
+    print!(rt; ": ")?;
+    printing::print_done(rt, harness::run_begun(image, begun))
 }
 
 // Creates P4 of 0x1000, which becomes the entry of this number.
-fn create_p4(image: &mut [u8], entry: EntryNo) {
+fn create_p4(rt: &impl Print, image: &mut [u8], entry: EntryNo) -> io::Result<()> {
     let begun = commands::start_create(image, quarry(), b"P4", 0x1000);
-    io::write_all(STDOUT_FILENO, b"create P4 4096: ");
-    printing::print_done(harness::run_begun(image, begun));
-    printing::print_entry_start(image, entry);
-    print_order(image);
+    print!(rt; "create P4 4096: ")?;
+    printing::print_done(rt, harness::run_begun(image, begun))?;
+    printing::print_entry_start(rt, image, entry)?;
+    print_order(rt, image)
 }
 
 // A command cut after some steps.
-fn cut(image: &mut [u8], command: Command, steps: usize) {
+fn cut(rt: &impl Print, image: &mut [u8], command: Command, steps: usize) -> io::Result<()> {
     let begun = harness::begin(image, quarry(), command);
     let job = begun.job;
     jobs::run(job, image, steps);
-    printing::print_command(command);
-    printing::print_cut(steps);
+    printing::print_command(rt, command)?;
+    printing::print_cut(rt, steps)
 }
 
-fn print_order(image: &[u8]) {
-    printing::print_order(image, quarry());
+fn print_order(rt: &impl Print, image: &[u8]) -> io::Result<()> {
+    printing::print_order(rt, image, quarry())
 }
 
-fn print_place(image: &[u8], place: PlaceNo) {
-    io::write_all(STDOUT_FILENO, b"CPB0 ");
-    printing::print_place(image, CPB0, place);
-    io::write_all(STDOUT_FILENO, b"CPB1 ");
-    printing::print_place(image, CPB1, place);
+fn print_place(rt: &impl Print, image: &[u8], place: PlaceNo) -> io::Result<()> {
+    print!(rt; "CPB0 ")?;
+    printing::print_place(rt, image, CPB0, place)?;
+    print!(rt; "CPB1 ")?;
+    printing::print_place(rt, image, CPB1, place)
 }
 
 // ---- the cases
 
-fn enable_third(image: &mut [u8], place: PlaceNo) {
-    finish(image, Command::Enable(SlotNo(2)));
-    print_place(image, place);
-    print_order(image);
+fn enable_third(rt: &impl Print, image: &mut [u8], place: PlaceNo) -> io::Result<()> {
+    finish(rt, image, Command::Enable(SlotNo(2)))?;
+    print_place(rt, image, place)?;
+    print_order(rt, image)
 }
 
-fn enable_then_disable(image: &mut [u8]) {
-    finish(image, Command::Enable(SlotNo(0)));
-    print_place(image, PlaceNo(2));
-    print_order(image);
-    finish(image, Command::Disable(SlotNo(0)));
-    print_order(image);
+fn enable_then_disable(rt: &impl Print, image: &mut [u8]) -> io::Result<()> {
+    finish(rt, image, Command::Enable(SlotNo(0)))?;
+    print_place(rt, image, PlaceNo(2))?;
+    print_order(rt, image)?;
+    finish(rt, image, Command::Disable(SlotNo(0)))?;
+    print_order(rt, image)
 }
 
-fn refused_slots(image: &mut [u8]) {
-    finish(image, Command::Disable(SlotNo(2)));
-    finish(image, Command::Enable(SlotNo(3)));
-    finish(image, Command::Disable(SlotNo(3)));
+fn refused_slots(rt: &impl Print, image: &mut [u8]) -> io::Result<()> {
+    finish(rt, image, Command::Disable(SlotNo(2)))?;
+    finish(rt, image, Command::Enable(SlotNo(3)))?;
+    finish(rt, image, Command::Disable(SlotNo(3)))
 }
 
-fn empty_slots(image: &mut [u8]) {
-    finish(image, Command::Enable(SlotNo(1)));
-    finish(image, Command::Enable(SlotNo(2)));
-    print_order(image);
+fn empty_slots(rt: &impl Print, image: &mut [u8]) -> io::Result<()> {
+    finish(rt, image, Command::Enable(SlotNo(1)))?;
+    finish(rt, image, Command::Enable(SlotNo(2)))?;
+    print_order(rt, image)
 }
 
 // The only place holds slot 1.
-fn one_place(image: &mut [u8]) {
-    finish(image, Command::Enable(SlotNo(1)));
-    finish(image, Command::Enable(SlotNo(2)));
-    finish(image, Command::Disable(SlotNo(1)));
-    finish(image, Command::Enable(SlotNo(2)));
-    print_order(image);
+fn one_place(rt: &impl Print, image: &mut [u8]) -> io::Result<()> {
+    finish(rt, image, Command::Enable(SlotNo(1)))?;
+    finish(rt, image, Command::Enable(SlotNo(2)))?;
+    finish(rt, image, Command::Disable(SlotNo(1)))?;
+    finish(rt, image, Command::Enable(SlotNo(2)))?;
+    print_order(rt, image)
 }
 
-fn two_shapes(image: &mut [u8]) {
-    print_order(image);
-    finish(image, Command::Enable(SlotNo(2)));
-    finish(image, Command::Repair);
-    finish(image, Command::Enable(SlotNo(2)));
-    print_order(image);
+fn two_shapes(rt: &impl Print, image: &mut [u8]) -> io::Result<()> {
+    print_order(rt, image)?;
+    finish(rt, image, Command::Enable(SlotNo(2)))?;
+    finish(rt, image, Command::Repair)?;
+    finish(rt, image, Command::Enable(SlotNo(2)))?;
+    print_order(rt, image)
 }
 
-fn cut_then_repaired(image: &mut [u8]) {
-    cut(image, Command::Enable(SlotNo(2)), 15);
-    print_place(image, PlaceNo(2));
-    print_order(image);
-    finish(image, Command::Repair);
-    enable_third(image, PlaceNo(3));
+fn cut_then_repaired(rt: &impl Print, image: &mut [u8]) -> io::Result<()> {
+    cut(rt, image, Command::Enable(SlotNo(2)), 15)?;
+    print_place(rt, image, PlaceNo(2))?;
+    print_order(rt, image)?;
+    finish(rt, image, Command::Repair)?;
+    enable_third(rt, image, PlaceNo(3))
 }
 
-fn rewrite_cut(image: &mut [u8], steps: usize) {
-    cut(image, Command::Enable(SlotNo(2)), steps);
-    print_order(image);
+fn rewrite_cut(rt: &impl Print, image: &mut [u8], steps: usize) -> io::Result<()> {
+    cut(rt, image, Command::Enable(SlotNo(2)), steps)?;
+    print_order(rt, image)
 }
 
 // A slot in the order is not deleted; the room of one that is deleted is found again.
-fn deleted_then_created(image: &mut [u8]) {
-    finish(image, Command::Delete(SlotNo(1)));
-    finish(image, Command::Delete(SlotNo(2)));
-    print_order(image);
-    create_p4(image, EntryNo(8));
+fn deleted_then_created(rt: &impl Print, image: &mut [u8]) -> io::Result<()> {
+    finish(rt, image, Command::Delete(SlotNo(1)))?;
+    finish(rt, image, Command::Delete(SlotNo(2)))?;
+    print_order(rt, image)?;
+    create_p4(rt, image, EntryNo(8))
 }
 
-fn names(image: &mut [u8]) {
-    finish_rename(image, b"fifteen_bytes_x");
-    finish_rename(image, b"sixteen_bytes_xx");
-    print_order(image);
+fn names(rt: &impl Print, image: &mut [u8]) -> io::Result<()> {
+    finish_rename(rt, image, b"fifteen_bytes_x")?;
+    finish_rename(rt, image, b"sixteen_bytes_xx")?;
+    print_order(rt, image)
 }
 
 // ---- which case on which image
@@ -165,129 +162,161 @@ enum Case {
     Created(EntryNo),
 }
 
-fn run_case(case: Case, image: &mut [u8]) {
+fn run_case(rt: &impl Print, case: Case, image: &mut [u8]) -> io::Result<()> {
     match case {
-        Case::Enable(slot) => finish(image, Command::Enable(slot)),
-        Case::EnableThird(place) => enable_third(image, place),
-        Case::EnableThenDisable => enable_then_disable(image),
-        Case::RefusedSlots => refused_slots(image),
-        Case::EmptySlots => empty_slots(image),
-        Case::OnePlace => one_place(image),
-        Case::TwoShapes => two_shapes(image),
-        Case::CutThenRepaired => cut_then_repaired(image),
-        Case::RewriteCut(steps) => rewrite_cut(image, steps),
-        Case::Disable(slot) => finish(image, Command::Disable(slot)),
-        Case::Names => names(image),
-        Case::OrderOnly => print_order(image),
-        Case::DeletedThenCreated => deleted_then_created(image),
-        Case::Created(entry) => create_p4(image, entry),
+        Case::Enable(slot) => finish(rt, image, Command::Enable(slot)),
+        Case::EnableThird(place) => enable_third(rt, image, place),
+        Case::EnableThenDisable => enable_then_disable(rt, image),
+        Case::RefusedSlots => refused_slots(rt, image),
+        Case::EmptySlots => empty_slots(rt, image),
+        Case::OnePlace => one_place(rt, image),
+        Case::TwoShapes => two_shapes(rt, image),
+        Case::CutThenRepaired => cut_then_repaired(rt, image),
+        Case::RewriteCut(steps) => rewrite_cut(rt, image, steps),
+        Case::Disable(slot) => finish(rt, image, Command::Disable(slot)),
+        Case::Names => names(rt, image),
+        Case::OrderOnly => print_order(rt, image),
+        Case::DeletedThenCreated => deleted_then_created(rt, image),
+        Case::Created(entry) => create_p4(rt, image, entry),
     }
 }
 
-fn on_image(title: &[u8], path: &[u8], case: Case) {
-    io::write_all(STDOUT_FILENO, title);
-    let mut image = image_buffer();
-    let fd = os::open_read(path);
-    let n = io::read_full(fd, &mut image);
-    libc::close(fd);
-    run_case(case, &mut image[..n]);
+fn on_image(
+    rt: &(impl Files + Alloc + Print),
+    title: &str,
+    path: &str,
+    case: Case,
+) -> io::Result<()> {
+    print!(rt; "{title}")?;
+    let mut image = Vec::new(rt.alloc());
+    let mut file = File::open(rt, path)?;
+    file.by_ref().take(LONGEST).read_to_end(&mut image)?;
+    run_case(rt, case, &mut image)
 }
 
 // Cases 1 to 6: the order, single places, a cut.
-fn the_order_and_places() {
-    on_image(b"case 1\n", b"quarry.img", Case::OrderOnly);
+fn the_order_and_places(rt: &(impl Files + Alloc + Print)) -> io::Result<()> {
+    on_image(rt, "case 1\n", "quarry.img", Case::OrderOnly)?;
     on_image(
-        b"case 2\n",
-        b"quarry_sent.img",
+        rt,
+        "case 2\n",
+        "quarry_sent.img",
         Case::EnableThird(PlaceNo(2)),
-    );
-    on_image(b"case 3\n", b"quarry_sent.img", Case::Enable(SlotNo(1)));
-    on_image(b"case 4\n", b"quarry_sent.img", Case::EnableThenDisable);
-    on_image(b"case 5\n", b"quarry.img", Case::RefusedSlots);
-    on_image(b"case 6\n", b"quarry_sent.img", Case::CutThenRepaired);
+    )?;
+    on_image(rt, "case 3\n", "quarry_sent.img", Case::Enable(SlotNo(1)))?;
+    on_image(rt, "case 4\n", "quarry_sent.img", Case::EnableThenDisable)?;
+    on_image(rt, "case 5\n", "quarry.img", Case::RefusedSlots)?;
+    on_image(rt, "case 6\n", "quarry_sent.img", Case::CutThenRepaired)
 }
 
 // Cases 7 to 9: the last place, a rewrite cut, half-cleared starts.
-fn rewrites() {
+fn rewrites(rt: &(impl Files + Alloc + Print)) -> io::Result<()> {
     on_image(
-        b"case 7, highest used place 506\n",
-        b"highest_506.img",
+        rt,
+        "case 7, highest used place 506\n",
+        "highest_506.img",
         Case::EnableThird(PlaceNo(507)),
-    );
+    )?;
     on_image(
-        b"case 7, highest used place 507\n",
-        b"highest_507.img",
+        rt,
+        "case 7, highest used place 507\n",
+        "highest_507.img",
         Case::EnableThird(PlaceNo(507)),
-    );
+    )?;
     on_image(
-        b"case 8, after 4,101 steps\n",
-        b"highest_507.img",
+        rt,
+        "case 8, after 4,101 steps\n",
+        "highest_507.img",
         Case::RewriteCut(4101),
-    );
+    )?;
     on_image(
-        b"case 8, after 4,102 steps\n",
-        b"highest_507.img",
+        rt,
+        "case 8, after 4,102 steps\n",
+        "highest_507.img",
         Case::RewriteCut(4102),
-    );
-    on_image(b"case 9, slot 0\n", b"moved.img", Case::Disable(SlotNo(0)));
-    on_image(b"case 9, slot 1\n", b"moved.img", Case::Disable(SlotNo(1)));
+    )?;
+    on_image(
+        rt,
+        "case 9, slot 0\n",
+        "moved.img",
+        Case::Disable(SlotNo(0)),
+    )?;
+    on_image(
+        rt,
+        "case 9, slot 1\n",
+        "moved.img",
+        Case::Disable(SlotNo(1)),
+    )
 }
 
 // Case 10: names, and tables of many entries.
-fn names_and_tables() {
-    on_image(b"case 10, names\n", b"quarry.img", Case::Names);
+fn names_and_tables(rt: &(impl Files + Alloc + Print)) -> io::Result<()> {
+    on_image(rt, "case 10, names\n", "quarry.img", Case::Names)?;
     on_image(
-        b"case 10, 127 entries\n",
-        b"entries_127.img",
+        rt,
+        "case 10, 127 entries\n",
+        "entries_127.img",
         Case::OrderOnly,
-    );
+    )?;
     on_image(
-        b"case 10, 128 entries\n",
-        b"entries_128.img",
+        rt,
+        "case 10, 128 entries\n",
+        "entries_128.img",
         Case::OrderOnly,
-    );
-    on_image(b"case 10, 0 bytes\n", b"no_bytes.img", Case::OrderOnly);
+    )?;
+    on_image(rt, "case 10, 0 bytes\n", "no_bytes.img", Case::OrderOnly)
 }
 
 // Document 02, Nos. 2, 9 and 5.
-fn of_document_02() {
-    on_image(b"empty slots\n", b"quarry.img", Case::EmptySlots);
+fn of_document_02(rt: &(impl Files + Alloc + Print)) -> io::Result<()> {
+    on_image(rt, "empty slots\n", "quarry.img", Case::EmptySlots)?;
     on_image(
-        b"a slot of which only byte 4,095 was sent\n",
-        b"last_byte_sent.img",
+        rt,
+        "a slot of which only byte 4,095 was sent\n",
+        "last_byte_sent.img",
         Case::EnableThird(PlaceNo(2)),
-    );
+    )?;
     on_image(
-        b"offset 0x28, 507 places\n",
-        b"offset_0x28.img",
+        rt,
+        "offset 0x28, 507 places\n",
+        "offset_0x28.img",
         Case::EnableThird(PlaceNo(2)),
-    );
-    on_image(b"offset 4,088, 1 place\n", b"one_place.img", Case::OnePlace);
+    )?;
     on_image(
-        b"offset 0x20, 4 places\n",
-        b"four_places.img",
+        rt,
+        "offset 4,088, 1 place\n",
+        "one_place.img",
+        Case::OnePlace,
+    )?;
+    on_image(
+        rt,
+        "offset 0x20, 4 places\n",
+        "four_places.img",
         Case::EnableThird(PlaceNo(3)),
-    );
+    )?;
     on_image(
-        b"two copies of different shape\n",
-        b"two_shapes.img",
+        rt,
+        "two copies of different shape\n",
+        "two_shapes.img",
         Case::TwoShapes,
-    );
+    )?;
     on_image(
-        b"create in the room of a deleted slot\n",
-        b"quarry.img",
+        rt,
+        "create in the room of a deleted slot\n",
+        "quarry.img",
         Case::DeletedThenCreated,
-    );
+    )?;
     on_image(
-        b"create where a place holds the lowest free start\n",
-        b"held.img",
+        rt,
+        "create where a place holds the lowest free start\n",
+        "held.img",
         Case::Created(EntryNo(8)),
-    );
+    )
 }
 
-fn main() {
-    the_order_and_places();
-    rewrites();
-    names_and_tables();
-    of_document_02();
+fn main(rt: HostRuntime) -> io::Result<()> {
+    the_order_and_places(&rt)?;
+    rewrites(&rt)?;
+    names_and_tables(&rt)?;
+    of_document_02(&rt)
 }

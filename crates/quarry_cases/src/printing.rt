@@ -3,85 +3,68 @@ use book::Answer;
 use book_orders::{Order, ROOM};
 use commands::Command;
 use harness::Done;
-use libc::STDOUT_FILENO;
 use rules::{EntryNo, PlaceNo, Refusal, Setting, SlotNo};
+use std::io;
 
-fn print_named(what: &[u8], slot: SlotNo) {
-    io::write_all(STDOUT_FILENO, what);
-    io::print_decimal(STDOUT_FILENO, slot.0 as u64);
-    io::write_all(STDOUT_FILENO, b": ");
+fn print_named(rt: &impl Print, what: &str, slot: SlotNo) -> io::Result<()> {
+    print!(rt; "{what} {}: ", slot.0)
 }
 
-pub fn print_command(command: Command) {
+pub fn print_command(rt: &impl Print, command: Command) -> io::Result<()> {
     match command {
-        Command::Enable(slot) => print_named(b"enable ", slot),
-        Command::Disable(slot) => print_named(b"disable ", slot),
-        Command::Rename(slot) => print_named(b"rename ", slot),
-        Command::Create(length) => {
-            io::write_all(STDOUT_FILENO, b"create ");
-            io::print_decimal(STDOUT_FILENO, length as u64);
-            io::write_all(STDOUT_FILENO, b": ");
-        }
-        Command::Delete(slot) => print_named(b"delete ", slot),
-        Command::Repair => {
-            io::write_all(STDOUT_FILENO, b"repair: ");
-        }
+        Command::Enable(slot) => print_named(rt, "enable", slot),
+        Command::Disable(slot) => print_named(rt, "disable", slot),
+        Command::Rename(slot) => print_named(rt, "rename", slot),
+        Command::Create(length) => print!(rt; "create {length}: "),
+        Command::Delete(slot) => print_named(rt, "delete", slot),
+        Command::Repair => print!(rt; "repair: "),
     }
 }
 
-pub fn print_done(done: Done) {
+pub fn print_done(rt: &impl Print, done: Done) -> io::Result<()> {
     match done {
-        Done::Steps(n) => {
-            io::print_decimal(STDOUT_FILENO, n as u64);
-            io::write_all(STDOUT_FILENO, b" steps\n");
-        }
-        Done::Refused(why) => print_refusal(why),
+        Done::Steps(n) => println!(rt; "{n} steps"),
+        Done::Refused(why) => print_refusal(rt, why),
     }
 }
 
-fn print_refusal(why: Refusal) {
-    io::write_all(STDOUT_FILENO, b"refused ");
-    io::print_decimal(STDOUT_FILENO, why.number as u64);
-    io::write_all(STDOUT_FILENO, b"\n");
+fn print_refusal(rt: &impl Print, why: Refusal) -> io::Result<()> {
+    println!(rt; "refused {}", why.number)
 }
 
-pub fn print_cut(steps: usize) {
-    io::write_all(STDOUT_FILENO, b"cut after ");
-    io::print_decimal(STDOUT_FILENO, steps as u64);
-    io::write_all(STDOUT_FILENO, b" steps\n");
+pub fn print_cut(rt: &impl Print, steps: usize) -> io::Result<()> {
+    println!(rt; "cut after {steps} steps")
 }
 
 // The boot order, or the refusal.
-pub fn print_order(image: &[u8], setting: Setting) {
+pub fn print_order(rt: &impl Print, image: &[u8], setting: Setting) -> io::Result<()> {
     let read = book::read_book(image, setting);
     let answer = read.answer;
     let kept = read.book;
     let order = kept.order;
     match answer {
-        Answer::Refused(why) => print_refusal(why),
+        Answer::Refused(why) => print_refusal(rt, why),
         Answer::Given => {
-            io::write_all(STDOUT_FILENO, b"order");
-            print_slots(order);
-            io::write_all(STDOUT_FILENO, b"\n");
+            print!(rt; "order")?;
+            print_slots(rt, order)?;
+            println!(rt;)
         }
     }
 }
 
-fn print_slots(order: Order) {
+fn print_slots(rt: &impl Print, order: Order) -> io::Result<()> {
     let row = order.row;
-    let mut i = 0;
-    while i < ROOM {
+    for i in 0..ROOM {
         if order.count <= i {
-            return;
+            break;
         }
-        print_slot(SlotNo(row[i]));
-        i += 1;
+        print_slot(rt, SlotNo(row[i]))?;
     }
+    Ok(())
 }
 
-fn print_slot(slot: SlotNo) {
-    io::write_all(STDOUT_FILENO, b" ");
-    io::print_decimal(STDOUT_FILENO, slot.0 as u64);
+fn print_slot(rt: &impl Print, slot: SlotNo) -> io::Result<()> {
+    print!(rt; " {}", slot.0)
 }
 
 // The value of eight bytes; 0 where they pass the end.
@@ -96,16 +79,9 @@ fn value_at(image: &[u8], at: usize) -> u64 {
 }
 
 // What a place of the pointer block at an address holds.
-pub fn print_place(image: &[u8], block: usize, place: PlaceNo) {
-    io::write_all(STDOUT_FILENO, b"place ");
-    io::print_decimal(STDOUT_FILENO, place.0 as u64);
-    io::write_all(STDOUT_FILENO, b": ");
-    io::print_hex(
-        STDOUT_FILENO,
-        value_at(image, place_at(image, block, place)),
-        16,
-    );
-    io::write_all(STDOUT_FILENO, b"\n");
+pub fn print_place(rt: &impl Print, image: &[u8], block: usize, place: PlaceNo) -> io::Result<()> {
+    let value = value_at(image, place_at(image, block, place));
+    println!(rt; "place {}: {value:016x}", place.0)
 }
 
 // Where it is, by the offset in the block's header; 0 where the block passes the image's end.
@@ -123,12 +99,9 @@ fn place_at(image: &[u8], block: usize, place: PlaceNo) -> usize {
 }
 
 // Where the entry of a number starts, by the table at 0x4000.
-pub fn print_entry_start(image: &[u8], entry: EntryNo) {
-    io::write_all(STDOUT_FILENO, b"SPT0 entry ");
-    io::print_decimal(STDOUT_FILENO, entry.0 as u64);
-    io::write_all(STDOUT_FILENO, b" start: ");
-    io::print_hex(STDOUT_FILENO, value_at(image, entry_at(entry)), 16);
-    io::write_all(STDOUT_FILENO, b"\n");
+pub fn print_entry_start(rt: &impl Print, image: &[u8], entry: EntryNo) -> io::Result<()> {
+    let value = value_at(image, entry_at(entry));
+    println!(rt; "SPT0 entry {} start: {value:016x}", entry.0)
 }
 
 fn entry_at(entry: EntryNo) -> usize {

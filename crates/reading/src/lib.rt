@@ -1,4 +1,6 @@
 // Reading a flash: the table read, the boot order, the slots. Nothing here stores into an image.
+#![tactic(auto)]
+
 ghost use Rattle.std.specs.Prelude.{◌≡◌, length};
 ghost use Rattle.rules.specs.Readers.{order_list, row_after, table_part, slot_count, slot_info, slot_name};
 ghost use Rattle.infos.specs.Answers.{known};

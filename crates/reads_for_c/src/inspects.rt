@@ -134,7 +134,7 @@ pub fn entry(
 {
     let found = inspect::entry::entry_name(image, setting, entry);
     let known = inspect::entry::entry_info(image, setting, entry);
-    let fitting = codes::names::fitting(known, found.len(), name.len());
+    let fitting = codes::name_room::fitting(known, found.len(), name.len());
     match fitting {
         Known::Refused(why) => why.number,
         Known::Is(f) => {

@@ -80,7 +80,7 @@ pub fn slot_name(
 {
     let found = reading::slot_name(image, setting, slot);
     let known = reading::slot_info(image, setting, slot);
-    let fitting = codes::names::fitting(known, found.len(), name.len());
+    let fitting = codes::name_room::fitting(known, found.len(), name.len());
     match fitting {
         Known::Refused(why) => why.number,
         Known::Is(_) => {

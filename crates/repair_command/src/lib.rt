@@ -1,4 +1,6 @@
 // Repair, once the view of the flash is known: the copy not read is rewritten from the copy read.
+#![tactic(auto)]
+
 ghost use Rattle.std.specs.Prelude.{◌≡◌, cond, eqb, length};
 ghost use Rattle.rules.specs.Bytes.{block_size};
 ghost use Rattle.rules.specs.Answers.{given};

@@ -7,34 +7,53 @@ use fields::bounds::{min, part_of};
 use fields::stores;
 use rules::Setting;
 use script_lines::Change;
+use std::io;
+use std::io::Write;
 
 pub const ERASED: u8 = 0xFF;
 
-pub fn change(desk: Desk, room: &mut [u8], asked: Change, line: &[u8]) -> Desk {
+pub fn change<W: Write>(
+    desk: Desk,
+    out: &mut W,
+    room: &mut [u8],
+    asked: Change,
+    line: &[u8],
+) -> io::Result<Desk> {
     match asked {
-        Change::Image(length, byte) => new_image(desk, room, length, byte),
-        Change::Length(length) => new_length(desk, room, length),
-        Change::Setting(granule, spt0, spt1) => new_setting(desk, granule, spt0, spt1),
-        Change::Put(address) => put(desk, room, address, tokens::last_word(line)),
-        Change::Copy(from, to, n) => copy(desk, room, from, to, n),
+        Change::Image(length, byte) => new_image(desk, out, room, length, byte),
+        Change::Length(length) => new_length(desk, out, room, length),
+        Change::Setting(granule, spt0, spt1) => Ok(new_setting(desk, granule, spt0, spt1)),
+        Change::Put(address) => put(desk, out, room, address, tokens::last_word(line)),
+        Change::Copy(from, to, n) => copy(desk, out, room, from, to, n),
     }
 }
 
-fn new_image(desk: Desk, room: &mut [u8], length: usize, byte: u8) -> Desk {
+fn new_image<W: Write>(
+    desk: Desk,
+    out: &mut W,
+    room: &mut [u8],
+    length: usize,
+    byte: u8,
+) -> io::Result<Desk> {
     if room.len() < length {
-        return desk::error(desk);
+        return desk::error(desk, out);
     }
     stores::fill(&mut room[0..length], byte);
-    desk::without_job(desk::with_length(desk, length))
+    Ok(desk::without_job(desk::with_length(desk, length)))
 }
 
-fn new_length(desk: Desk, room: &mut [u8], length: usize) -> Desk {
+fn new_length<W: Write>(
+    desk: Desk,
+    out: &mut W,
+    room: &mut [u8],
+    length: usize,
+) -> io::Result<Desk> {
     if room.len() < length {
-        return desk::error(desk);
+        return desk::error(desk, out);
     }
     let kept = min(desk.length, length);
     stores::fill(&mut room[kept..length], ERASED);
-    desk::with_length(desk, length)
+    Ok(desk::with_length(desk, length))
 }
 
 fn new_setting(desk: Desk, granule: usize, spt0: usize, spt1: usize) -> Desk {
@@ -46,41 +65,52 @@ fn new_setting(desk: Desk, granule: usize, spt0: usize, spt1: usize) -> Desk {
     desk::with_setting(desk, setting)
 }
 
-fn put(desk: Desk, room: &mut [u8], at: usize, word: &[u8]) -> Desk {
+fn put<W: Write>(
+    desk: Desk,
+    out: &mut W,
+    room: &mut [u8],
+    at: usize,
+    word: &[u8],
+) -> io::Result<Desk> {
     let length = min(desk.length, room.len());
     let part = part_of(length, at, word.len() / 2);
     if !part.right {
-        return desk::error(desk);
+        return desk::error(desk, out);
     }
     let from = part.from;
     let to = part.to;
     answer_parts::hex::decode(word, &mut room[from..to]);
-    desk
+    Ok(desk)
 }
 
-fn copy(desk: Desk, room: &mut [u8], from: usize, to: usize, n: usize) -> Desk {
+fn copy<W: Write>(
+    desk: Desk,
+    out: &mut W,
+    room: &mut [u8],
+    from: usize,
+    to: usize,
+    n: usize,
+) -> io::Result<Desk> {
     let length = min(desk.length, room.len());
     if length < n {
-        return desk::error(desk);
+        return desk::error(desk, out);
     }
     if length - n < from {
-        return desk::error(desk);
+        return desk::error(desk, out);
     }
     if length - n < to {
-        return desk::error(desk);
+        return desk::error(desk, out);
     }
     copy_bytes(room, from, to, n);
-    desk
+    Ok(desk)
 }
 
 fn copy_bytes(room: &mut [u8], from: usize, to: usize, n: usize)
     requires { (from + n ≤ length room.old) × (to + n ≤ length room.old) }
 {
-    let mut i = 0;
-    while i < n {
+    for i in 0..n {
         let k = turn(i, n, to <= from);
         room[to + k] = room[from + k];
-        i += 1;
     }
 }
 

@@ -1,95 +1,76 @@
-// Pieces of standard input, made into lines.
+// Standard input, line by line.
 use super::desk::Desk;
 use super::{changes, desk, questions, starts, steps};
-use fields::bounds::min;
-use libc::STDIN_FILENO;
 use script_lines::Line;
+use std::alloc::Global;
+use std::io;
+use std::io::{BufRead, BufReader, Read, Write};
 
-// Nothing says that the input ends, so turns are counted down from a number that no run uses up.
-pub fn replay(room: &mut [u8], line: &mut [u8]) {
+// The longest line.
+const LINE_ROOM: usize = 16384;
+
+// Nothing says that the input ends, so turns are counted up to a number that no run reaches. What is answered goes out
+// before more input is waited for.
+pub fn replay<R: Read + Drop, W: Write>(
+    alloc: Global,
+    lines: &mut BufReader<R>,
+    out: &mut W,
+    room: &mut [u8],
+) -> io::Result<()> {
+    let mut line = Vec::new(alloc);
     let mut desk = desk::new_desk();
-    let mut turns = u64::MAX;
-    while 0 < turns {
+    for _ in 0..u64::MAX {
         if desk.ended {
-            return;
+            break;
         }
-        desk = read_piece(desk, room, line);
-        turns -= 1;
-    }
-}
-
-fn read_piece(desk: Desk, room: &mut [u8], line: &mut [u8]) -> Desk {
-    let mut piece = io::large_buffer();
-    let got = libc::read(STDIN_FILENO, &mut piece);
-    let n = io::count(got, &piece);
-    if n == 0 {
-        return finish(desk, room, line);
-    }
-    take_piece(desk, room, line, &piece[..n])
-}
-
-// The last line may lack its LF.
-fn finish(desk: Desk, room: &mut [u8], line: &[u8]) -> Desk {
-    if desk.used == 0 {
-        return desk::end(desk);
-    }
-    let end = min(desk.used, line.len());
-    desk::end(do_line(desk, room, &line[0..end]))
-}
-
-fn take_piece(desk: Desk, room: &mut [u8], line: &mut [u8], piece: &[u8]) -> Desk {
-    let mut next = desk;
-    let mut at = 0;
-    while at < piece.len() {
-        let end = at + names::length_before(&piece[at..], b'\n');
-        next = take_part(next, room, line, &piece[at..end], end < piece.len());
-        if next.ended {
-            return next;
+        if !lines.buffer().contains(&b'\n') {
+            out.flush()?;
         }
-        at = end + 1;
+        line.clear();
+        lines
+            .by_ref()
+            .take(LINE_ROOM as u64 + 1)
+            .read_until(b'\n', &mut line)?;
+        desk = take_line(desk, out, room, &line)?;
     }
-    next
+    Ok(())
 }
 
-// Adds a part of a line; the line is done once it is whole.
-fn take_part(desk: Desk, room: &mut [u8], line: &mut [u8], part: &[u8], whole: bool) -> Desk {
-    let used = min(desk.used, line.len());
-    if line.len() - used < part.len() {
-        return desk::error(desk);
-    }
-    let end = used + part.len();
-    store(&mut line[used..end], part);
-    if !whole {
-        return desk::with_used(desk, end);
-    }
-    desk::next_line(do_line(desk, room, &line[0..end]))
-}
-
-fn store(to: &mut [u8], bytes: &[u8]) {
-    let n = min(to.len(), bytes.len());
-    let mut i = 0;
-    while i < n {
-        to[i] = bytes[i];
-        i += 1;
+// A line, which ends in its LF, or what the input ends in.
+fn take_line<W: Write>(desk: Desk, out: &mut W, room: &mut [u8], line: &[u8]) -> io::Result<Desk> {
+    match line {
+        [whole @ .., b'\n'] => Ok(desk::next_line(do_line(desk, out, room, whole)?)),
+        _ => finish(desk, out, room, line),
     }
 }
 
-fn do_line(desk: Desk, room: &mut [u8], line: &[u8]) -> Desk {
+// The last line may lack its LF. One that is too long is not read to its end.
+fn finish<W: Write>(desk: Desk, out: &mut W, room: &mut [u8], line: &[u8]) -> io::Result<Desk> {
+    if line.len() == 0 {
+        return Ok(desk::end(desk));
+    }
+    if LINE_ROOM < line.len() {
+        return desk::error(desk, out);
+    }
+    Ok(desk::end(do_line(desk, out, room, line)?))
+}
+
+fn do_line<W: Write>(desk: Desk, out: &mut W, room: &mut [u8], line: &[u8]) -> io::Result<Desk> {
     let asked = script::line_of(line);
     match asked {
-        Line::Nothing => desk,
-        Line::Change(change) => changes::change(desk, room, change, line),
+        Line::Nothing => Ok(desk),
+        Line::Change(change) => changes::change(desk, out, room, change, line),
         Line::Question(question) => {
-            if questions::ask(desk, room, question) {
-                return desk;
+            if questions::ask(desk, out, room, question)? {
+                return Ok(desk);
             }
-            desk::error(desk)
+            desk::error(desk, out)
         }
-        Line::Command(command) => starts::start(desk, room, command, b""),
+        Line::Command(command) => starts::start(desk, out, room, command, b""),
         Line::Named(command) => {
-            starts::start_named(desk, room, command, tokens::last_word(line))
+            starts::start_named(desk, out, room, command, tokens::last_word(line))
         }
-        Line::Steps(asked_steps) => steps::carry_out(desk, room, asked_steps, line),
-        Line::Error => desk::error(desk),
+        Line::Steps(asked_steps) => steps::carry_out(desk, out, room, asked_steps, line),
+        Line::Error => desk::error(desk, out),
     }
 }

@@ -1,86 +1,70 @@
 // Answers on standard output, each a line, but for the listing.
-use answer_parts::put_number;
 use fields::bounds::min;
-use libc::STDOUT_FILENO;
 use rules::{EntryNo, Fault, Refusal, Setting, SlotInfo, SlotNo};
+use std::io;
+use std::io::Write;
 
 // The front of a buffer.
-fn write_front(out: &[u8], end: usize) {
-    let n = min(end, out.len());
-    io::write_all(STDOUT_FILENO, &out[0..n]);
-}
-
-// The front of a buffer as a line.
-fn write_line(out: &mut [u8], end: usize) {
-    let after = text::put_byte(out, end, b'\n');
-    write_front(out, after);
+fn write_front<W: Write>(out: &mut W, text: &[u8], end: usize) -> io::Result<()> {
+    let n = min(end, text.len());
+    out.write_all(&text[0..n])
 }
 
 // A word.
-pub fn print_word(word: &[u8]) {
-    let mut out = [0u8; 64];
-    let end = text::put_bytes(&mut out, 0, word);
-    write_line(&mut out, end);
+pub fn print_word<W: Write>(out: &mut W, word: &str) -> io::Result<()> {
+    writeln!(out, "{word}")
 }
 
 // A word and a number.
-pub fn print_number(word: &[u8], number: u64) {
-    let mut out = [0u8; 64];
-    let end = text::put_bytes(&mut out, 0, word);
-    let after = put_number(&mut out, end, number);
-    write_line(&mut out, after);
+pub fn print_number<W: Write>(out: &mut W, word: &str, number: u64) -> io::Result<()> {
+    writeln!(out, "{word} {number}")
 }
 
 // The number of a refusal, and where no table copy stands the rule and the entry told for SPT0 and for SPT1.
-pub fn print_refused(why: Refusal) {
+pub fn print_refused<W: Write>(out: &mut W, why: Refusal) -> io::Result<()> {
     if (why.number == 50) | (why.number == 51) {
-        print_faults(why);
-        return;
+        return print_faults(out, why);
     }
-    print_number(b"refused", why.number as u64);
+    print_number(out, "refused", why.number as u64)
 }
 
-fn print_faults(why: Refusal) {
-    let mut out = [0u8; 128];
-    let mut end = text::put_bytes(&mut out, 0, b"refused");
-    end = put_number(&mut out, end, why.number as u64);
-    end = put_fault(&mut out, end, why.fault0);
-    end = put_fault(&mut out, end, why.fault1);
-    write_line(&mut out, end);
+fn print_faults<W: Write>(out: &mut W, why: Refusal) -> io::Result<()> {
+    write!(out, "refused {}", why.number)?;
+    print_fault(out, why.fault0)?;
+    print_fault(out, why.fault1)?;
+    writeln!(out)
 }
 
-fn put_fault(out: &mut [u8], at: usize, fault: Fault) -> usize {
-    let end = put_number(out, at, fault.rule as u64);
-    put_number(out, end, row_of(fault.entry))
+fn print_fault<W: Write>(out: &mut W, fault: Fault) -> io::Result<()> {
+    write!(out, " {} {}", fault.rule, row_of(fault.entry))
 }
 
 // Slot numbers in their order.
-pub fn print_order(row: &[u32]) {
-    let mut out = io::buffer();
-    let end = text::put_bytes(&mut out, 0, b"order");
-    let after = answer_parts::put_numbers(&mut out, end, row);
-    write_line(&mut out, after);
+pub fn print_order<W: Write>(out: &mut W, row: &[u32]) -> io::Result<()> {
+    write!(out, "order")?;
+    for slot in row {
+        write!(out, " {slot}")?;
+    }
+    writeln!(out)
 }
 
-// The listing of an image, in as many lines as it has. The buffer takes it whole (`listing-for-whole`).
-pub fn print_listing(setting: Setting, image: &[u8]) {
-    let mut out = io::large_buffer();
-    let end = report::listing_for(image, setting, &mut out);
-    io::write_all(STDOUT_FILENO, &out[..end]);
+// The listing of an image, in as many lines as it has. The buffer takes it whole (`listing_for_whole`).
+pub fn print_listing<W: Write>(out: &mut W, setting: Setting, image: &[u8]) -> io::Result<()> {
+    let mut text = [0u8; 65536];
+    let end = report::listing_for(image, setting, &mut text);
+    out.write_all(&text[..end])
 }
 
 // A slot's number, entry, name and info.
-pub fn print_slot(slot: SlotNo, info: SlotInfo, name: &[u8]) {
-    let mut out = [0u8; 256];
-    let mut end = text::put_bytes(&mut out, 0, b"slot");
-    end = put_number(&mut out, end, slot.0 as u64);
-    end = put_number(&mut out, end, row_of(info.entry));
-    end = text::put_byte(&mut out, end, b' ');
-    end = answer_parts::hex::put(&mut out, end, name);
-    end = put_number(&mut out, end, info.start);
-    end = put_number(&mut out, end, info.size);
-    end = put_number(&mut out, end, info.flags);
-    write_line(&mut out, end);
+pub fn print_slot<W: Write>(
+    out: &mut W,
+    slot: SlotNo,
+    info: SlotInfo,
+    name: &[u8],
+) -> io::Result<()> {
+    write!(out, "slot {} {} ", slot.0, row_of(info.entry))?;
+    write_piece(out, name)?;
+    writeln!(out, " {} {} {}", info.start, info.size, info.flags)
 }
 
 fn row_of(entry: EntryNo) -> u64 {
@@ -88,38 +72,32 @@ fn row_of(entry: EntryNo) -> u64 {
 }
 
 // The length of a dump and the sum of its bytes.
-pub fn print_dump(length: usize, sum: u64) {
-    let mut out = [0u8; 64];
-    let mut end = text::put_bytes(&mut out, 0, b"dump");
-    end = put_number(&mut out, end, length as u64);
-    end = put_number(&mut out, end, sum);
-    write_line(&mut out, end);
+pub fn print_dump<W: Write>(out: &mut W, length: usize, sum: u64) -> io::Result<()> {
+    writeln!(out, "dump {length} {sum}")
 }
 
 // Bytes in hexadecimal, however many.
-pub fn print_bytes(bytes: &[u8]) {
-    io::write_all(STDOUT_FILENO, b"bytes");
+pub fn print_bytes<W: Write>(out: &mut W, bytes: &[u8]) -> io::Result<()> {
+    write!(out, "bytes")?;
     if 0 < bytes.len() {
-        io::write_all(STDOUT_FILENO, b" ");
-        write_hex(bytes);
+        write!(out, " ")?;
+        write_hex(out, bytes)?;
     }
-    io::write_all(STDOUT_FILENO, b"\n");
+    writeln!(out)
 }
 
 // As many bytes as are put into a buffer of 4,096 at a time.
 const PIECE: usize = 2048;
 
-fn write_hex(bytes: &[u8]) {
-    let mut i = 0;
-    while i < bytes.len() {
-        let n = min(PIECE, bytes.len() - i);
-        write_piece(&bytes[i..i + n]);
-        i += n;
+fn write_hex<W: Write>(out: &mut W, bytes: &[u8]) -> io::Result<()> {
+    for piece in bytes.chunks(PIECE) {
+        write_piece(out, piece)?;
     }
+    Ok(())
 }
 
-fn write_piece(bytes: &[u8]) {
-    let mut out = io::buffer();
-    let end = answer_parts::hex::put(&mut out, 0, bytes);
-    write_front(&out, end);
+fn write_piece<W: Write>(out: &mut W, bytes: &[u8]) -> io::Result<()> {
+    let mut text = [0u8; 4096];
+    let end = answer_parts::hex::put(&mut text, 0, bytes);
+    write_front(out, &text, end)
 }

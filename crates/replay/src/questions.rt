@@ -6,18 +6,20 @@ use infos::Known;
 use order_lists::Listed;
 use rules::{Setting, SlotNo};
 use script_lines::Question;
+use std::io;
+use std::io::Write;
 
-pub fn ask(desk: Desk, room: &[u8], asked: Question) -> bool {
+pub fn ask<W: Write>(desk: Desk, out: &mut W, room: &[u8], asked: Question) -> io::Result<bool> {
     let setting = desk.setting;
     let length = min(desk.length, room.len());
     let image = &room[0..length];
     match asked {
-        Question::Order(places) => tell_order(setting, image, places),
-        Question::Listing => tell_listing(setting, image),
-        Question::Slot(slot) => tell_slot(setting, image, slot),
-        Question::Peek(at, n) => tell_bytes(image, at, n),
-        Question::Sum => tell_sum(image),
-        Question::Dumps(a, m, b, n) => tell_dump(image, a, m, b, n),
+        Question::Order(places) => tell_order(out, setting, image, places),
+        Question::Listing => tell_listing(out, setting, image),
+        Question::Slot(slot) => tell_slot(out, setting, image, slot),
+        Question::Peek(at, n) => tell_bytes(out, image, at, n),
+        Question::Sum => tell_sum(out, image),
+        Question::Dumps(a, m, b, n) => tell_dump(out, image, a, m, b, n),
     }
 }
 
@@ -26,68 +28,91 @@ fn row_room() -> [u32; rules::MOST_PLACES] {
     [0; rules::MOST_PLACES]
 }
 
-fn tell_order(setting: Setting, image: &[u8], places: usize) -> bool {
+fn tell_order<W: Write>(
+    out: &mut W,
+    setting: Setting,
+    image: &[u8],
+    places: usize,
+) -> io::Result<bool> {
     let mut row = row_room();
-    tell_order_in(setting, image, places, &mut row)
+    tell_order_in(out, setting, image, places, &mut row)
 }
 
-fn tell_order_in(setting: Setting, image: &[u8], places: usize, row: &mut [u32]) -> bool {
+fn tell_order_in<W: Write>(
+    out: &mut W,
+    setting: Setting,
+    image: &[u8],
+    places: usize,
+    row: &mut [u32],
+) -> io::Result<bool> {
     let n = min(places, row.len());
     let listed = reading::order_list(image, setting, &mut row[0..n]);
     match listed {
-        Listed::Refused(why) => printing::print_refused(why),
+        Listed::Refused(why) => printing::print_refused(out, why)?,
         Listed::Count(count) => {
             let end = min(count, row.len());
-            printing::print_order(&row[0..end]);
+            printing::print_order(out, &row[0..end])?;
         }
     }
-    true
+    Ok(true)
 }
 
-fn tell_listing(setting: Setting, image: &[u8]) -> bool {
-    printing::print_listing(setting, image);
-    true
+fn tell_listing<W: Write>(out: &mut W, setting: Setting, image: &[u8]) -> io::Result<bool> {
+    printing::print_listing(out, setting, image)?;
+    Ok(true)
 }
 
-fn tell_slot(setting: Setting, image: &[u8], slot: SlotNo) -> bool {
+fn tell_slot<W: Write>(
+    out: &mut W,
+    setting: Setting,
+    image: &[u8],
+    slot: SlotNo,
+) -> io::Result<bool> {
     let known = reading::slot_info(image, setting, slot);
     match known {
-        Known::Refused(why) => printing::print_refused(why),
+        Known::Refused(why) => printing::print_refused(out, why)?,
         Known::Is(info) => {
             let name = reading::slot_name(image, setting, slot);
-            printing::print_slot(slot, info, name);
+            printing::print_slot(out, slot, info, name)?;
         }
     }
-    true
+    Ok(true)
 }
 
-fn tell_bytes(image: &[u8], at: usize, n: usize) -> bool {
+fn tell_bytes<W: Write>(out: &mut W, image: &[u8], at: usize, n: usize) -> io::Result<bool> {
     let part = part_of(image.len(), at, n);
     if !part.right {
-        return false;
+        return Ok(false);
     }
     let from = part.from;
     let to = part.to;
-    printing::print_bytes(&image[from..to]);
-    true
+    printing::print_bytes(out, &image[from..to])?;
+    Ok(true)
 }
 
-fn tell_sum(image: &[u8]) -> bool {
-    printing::print_number(b"sum", answer_parts::sum::fnv1a(image));
-    true
+fn tell_sum<W: Write>(out: &mut W, image: &[u8]) -> io::Result<bool> {
+    printing::print_number(out, "sum", answer_parts::sum::fnv1a(image))?;
+    Ok(true)
 }
 
-fn tell_dump(image: &[u8], a: usize, m: usize, b: usize, n: usize) -> bool {
+fn tell_dump<W: Write>(
+    out: &mut W,
+    image: &[u8],
+    a: usize,
+    m: usize,
+    b: usize,
+    n: usize,
+) -> io::Result<bool> {
     let one = part_of(image.len(), a, m);
     let other = part_of(image.len(), b, n);
     if !(one.right & other.right) {
-        return false;
+        return Ok(false);
     }
     let one_from = one.from;
     let one_to = one.to;
     let other_from = other.from;
     let other_to = other.to;
     let dump = dumps::standing_dump(&image[one_from..one_to], &image[other_from..other_to]);
-    printing::print_dump(dump.len(), answer_parts::sum::fnv1a(dump));
-    true
+    printing::print_dump(out, dump.len(), answer_parts::sum::fnv1a(dump))?;
+    Ok(true)
 }

@@ -4,22 +4,30 @@ use super::{desk, printing};
 use commands::Command;
 use drafts::Outcome;
 use fields::bounds::min;
+use std::io;
+use std::io::Write;
 
 // A command of this name; an empty one where it has none.
-pub fn start(desk: Desk, room: &[u8], command: Command, name: &[u8]) -> Desk {
+pub fn start<W: Write>(
+    desk: Desk,
+    out: &mut W,
+    room: &[u8],
+    command: Command,
+    name: &[u8],
+) -> io::Result<Desk> {
     let setting = desk.setting;
     let length = min(desk.length, room.len());
     let begun = commands::start(&room[0..length], setting, command, name);
     let outcome = begun.answer;
     match outcome {
         Outcome::Refused(why) => {
-            printing::print_refused(why);
-            desk::without_job(desk)
+            printing::print_refused(out, why)?;
+            Ok(desk::without_job(desk))
         }
         Outcome::Started => {
             let job = begun.job;
-            printing::print_number(b"job", jobs::remaining(job) as u64);
-            desk::with_job(desk, job)
+            printing::print_number(out, "job", jobs::remaining(job) as u64)?;
+            Ok(desk::with_job(desk, job))
         }
     }
 }
@@ -30,13 +38,26 @@ fn name_room() -> [u8; 8192] {
 }
 
 // A command of the name that a word has as bytes.
-pub fn start_named(desk: Desk, room: &[u8], command: Command, word: &[u8]) -> Desk {
+pub fn start_named<W: Write>(
+    desk: Desk,
+    out: &mut W,
+    room: &[u8],
+    command: Command,
+    word: &[u8],
+) -> io::Result<Desk> {
     let mut name = name_room();
-    start_with(desk, room, command, word, &mut name)
+    start_with(desk, out, room, command, word, &mut name)
 }
 
-fn start_with(desk: Desk, room: &[u8], command: Command, word: &[u8], name: &mut [u8]) -> Desk {
+fn start_with<W: Write>(
+    desk: Desk,
+    out: &mut W,
+    room: &[u8],
+    command: Command,
+    word: &[u8],
+    name: &mut [u8],
+) -> io::Result<Desk> {
     let n = min(word.len() / 2, name.len());
     answer_parts::hex::decode(word, &mut name[0..n]);
-    start(desk, room, command, &name[0..n])
+    start(desk, out, room, command, &name[0..n])
 }

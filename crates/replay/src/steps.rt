@@ -5,63 +5,84 @@ use fields::bounds::{Part, min, part_of};
 use jobs::{Did, Job, Next, Ran};
 use rules::Step;
 use script_lines::Steps;
+use std::io;
+use std::io::Write;
 use tokens::words;
 
-pub fn carry_out(desk: Desk, room: &mut [u8], asked: Steps, line: &[u8]) -> Desk {
+pub fn carry_out<W: Write>(
+    desk: Desk,
+    out: &mut W,
+    room: &mut [u8],
+    asked: Steps,
+    line: &[u8],
+) -> io::Result<Desk> {
     if !desk.busy {
-        return desk::error(desk);
+        return desk::error(desk, out);
     }
     let length = min(desk.length, room.len());
     match asked {
-        Steps::Run(budget) => run(desk, &mut room[0..length], budget),
-        Steps::Cut(n, bytes) => cut(desk, &mut room[0..length], n, bytes),
-        Steps::Torn(n, ranges) => torn(desk, &mut room[0..length], n, ranges, line),
+        Steps::Run(budget) => run(desk, out, &mut room[0..length], budget),
+        Steps::Cut(n, bytes) => cut(desk, out, &mut room[0..length], n, bytes),
+        Steps::Torn(n, ranges) => torn(desk, out, &mut room[0..length], n, ranges, line),
     }
 }
 
-fn run(desk: Desk, image: &mut [u8], budget: usize) -> Desk {
+fn run<W: Write>(desk: Desk, out: &mut W, image: &mut [u8], budget: usize) -> io::Result<Desk> {
     let job = desk.job;
     let ran = jobs::run(job, image, budget);
     let did = ran.did;
     match did {
-        Did::Refused(why) => printing::print_refused(why),
-        Did::Steps(n) => printing::print_number(b"ran", n as u64),
+        Did::Refused(why) => printing::print_refused(out, why)?,
+        Did::Steps(n) => printing::print_number(out, "ran", n as u64)?,
     }
     let after = ran.job;
-    desk::with_job(desk, after)
+    Ok(desk::with_job(desk, after))
 }
 
 // ---- cuts
 
 // With the lowest bytes of an erase that comes next done.
-fn cut(desk: Desk, image: &mut [u8], n: usize, bytes: usize) -> Desk {
+fn cut<W: Write>(
+    desk: Desk,
+    out: &mut W,
+    image: &mut [u8],
+    n: usize,
+    bytes: usize,
+) -> io::Result<Desk> {
     let job = desk.job;
     if jobs::remaining(job) <= n {
-        return desk::error(desk);
+        return desk::error(desk, out);
     }
     let part = erase_after(jobs::run(job, image, n), image.len());
     let to = min(part.to, image.len());
     let from = min(part.from, to);
     wipe(&mut image[from..to], 0, bytes);
-    dropped(desk)
+    dropped(desk, out)
 }
 
 // With some ranges of it done.
-fn torn(desk: Desk, image: &mut [u8], n: usize, ranges: usize, line: &[u8]) -> Desk {
+fn torn<W: Write>(
+    desk: Desk,
+    out: &mut W,
+    image: &mut [u8],
+    n: usize,
+    ranges: usize,
+    line: &[u8],
+) -> io::Result<Desk> {
     let job = desk.job;
     if jobs::remaining(job) <= n {
-        return desk::error(desk);
+        return desk::error(desk, out);
     }
     let part = erase_after(jobs::run(job, image, n), image.len());
     let to = min(part.to, image.len());
     let from = min(part.from, to);
     wipe_ranges(&mut image[from..to], ranges, line);
-    dropped(desk)
+    dropped(desk, out)
 }
 
-fn dropped(desk: Desk) -> Desk {
-    printing::print_word(b"cut");
-    desk::without_job(desk)
+fn dropped<W: Write>(desk: Desk, out: &mut W) -> io::Result<Desk> {
+    printing::print_word(out, "cut")?;
+    Ok(desk::without_job(desk))
 }
 
 // The granule that comes next to be erased, after a run; else nothing. A run that is refused leaves the image as it was,
@@ -99,13 +120,11 @@ fn wipe(granule: &mut [u8], at: usize, n: usize) {
 // The ranges are the line's last words, in pairs. Each only sets bytes to 0xFF, so the last may come first.
 fn wipe_ranges(granule: &mut [u8], ranges: usize, line: &[u8]) {
     let mut end = line.len();
-    let mut i = 0;
-    while i < ranges {
+    for _ in 0..ranges {
         let size = last_of(line, end);
         let at = last_of(line, size.before);
         end = at.before;
         wipe(granule, at.number, size.number);
-        i += 1;
     }
 }
 

@@ -1,4 +1,6 @@
 // The listing of an image, put into a lent buffer: its boot order, then its dead places.
+#![tactic(auto)]
+
 ghost use Rattle.std.specs.Prelude.{◌≡◌, ◌≤◌, length, take};
 ghost use Rattle.views.specs.Inner.Located.{Located};
 ghost use Rattle.text.specs.Put.{Put};

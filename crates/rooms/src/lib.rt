@@ -1,11 +1,13 @@
 // The lowest start of a new slot. A candidate that is refused names the next one: the end of an entry that it overlaps,
 // or the next multiple of 4,096 where a place holds it. So the cost goes by entries and places, not by the image's length.
+#![tactic(auto)]
+
 ghost use Rattle.std.specs.Prelude.{◌≡◌, true, false, ◌+◌, ◌≤◌, ◌<◌, length};
 ghost use Rattle.rules.specs.Lists.{member, all};
 ghost use Rattle.rules.specs.Bytes.{block_size};
 ghost use Rattle.rules.specs.Numbers.{longest};
 ghost use Rattle.rules.specs.Table.{rows, range_inside};
-ghost use Rattle.rules.specs.Pointers.{places as place-values, all_ones};
+ghost use Rattle.rules.specs.Pointers.{places as place_values, all_ones};
 ghost use Rattle.rules.specs.Commands.{lowest_start, size_right};
 ghost use Rattle.walks.specs.Entries.{entry_at, most_entries, HasEntries};
 ghost use Rattle.places.specs.Inner.PlacesOf.{HasPlaces};
@@ -57,7 +59,7 @@ fn raised(t: &[u8], n: usize, start: u64, size: u64) -> u64
 // Some place holds the value, which is not that of an erased place.
 fn held(p: &[u8], places: Places, v: u64) -> bool
     requires { HasPlaces p.now places × (all_ones v ≡ false) }
-    ensures { result ≡ member v (place-values p.now) }
+    ensures { result ≡ member v (place_values p.now) }
 {
     if places.count == 0 {
         return false;
@@ -72,7 +74,7 @@ fn held(p: &[u8], places: Places, v: u64) -> bool
 fn next_candidate(t: &[u8], n: usize, p: &[u8], places: Places, a: u64, size: u64) -> u64
     requires { ((HasEntries t.now n × (all (range_inside longest) (rows n t.now) ≡ true)) × HasPlaces p.now places)
         × ((a ≤ longest) × (size < 0x100000000)) }
-    ensures { result ≡ next_candidate size (rows n t.now) (place-values p.now) a }
+    ensures { result ≡ next_candidate size (rows n t.now) (place_values p.now) a }
 {
     let b = raised(t, n, a, size);
     if b != a {
@@ -89,7 +91,7 @@ fn next_candidate(t: &[u8], n: usize, p: &[u8], places: Places, a: u64, size: u6
 pub fn lowest_start(t: &[u8], n: usize, p: &[u8], places: Places, len: u64, size: u64) -> u64
     requires { ((HasEntries t.now n × Placed len (rows n t.now)) × HasPlaces p.now places)
         × ((size_right size ≡ true) × (size < 0x100000000)) }
-    ensures { result ≡ lowest_start 0 len (rows n t.now) (place-values p.now) size }
+    ensures { result ≡ lowest_start 0 len (rows n t.now) (place_values p.now) size }
 {
     let mut a = 0;
     while a + size <= len {

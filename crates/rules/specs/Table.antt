@@ -81,7 +81,7 @@ is_fixed_name n = any (same n) six_names
 unfoldable pub no_entry : Entry
 no_entry = record { name_field = []; start = 0; size = 0; flags = 0 }
 
--- the first entry of that name. Where no entry has it, `no-entry` starts at 0, so that rule 9 below holds of a table
+-- the first entry of that name. Where no entry has it, `no_entry` starts at 0, so that rule 9 below holds of a table
 -- without BOOT_INFO; such a table breaks rule 8
 unfoldable pub named : List ℕ → List Entry → Entry
 named n es = first (has_name n) no_entry es
@@ -209,7 +209,7 @@ entries_fault s len es =
     (broken_unless 11 (first_failing (block_on_granules s) es) (blocks_on_granules s es)
     no_fault))))))))
 
--- "the first broken rule" of a table copy; `no-fault` exactly if it stands
+-- "the first broken rule" of a table copy; `no_fault` exactly if it stands
 unfoldable pub fault : Setting → ℕ → List ℕ → Fault
 fault s len t =
     broken_unless 1 no_entry_number (header_right t)

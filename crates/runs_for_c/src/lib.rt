@@ -1,4 +1,6 @@
 // A job in a lent buffer run, its steps counted and told, with the answer as numbers.
+#![tactic(auto)]
+
 ghost use Rattle.runs_for_c.specs.Counted.{Counted};
 ghost use Rattle.runs_for_c.specs.Ran.{lent, running, RanAs};
 ghost use Rattle.runs_for_c.specs.Told.{RemainingTold, NextTold};

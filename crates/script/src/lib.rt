@@ -1,4 +1,6 @@
 // One line of a replay script: what it does.
+#![tactic(auto)]
+
 ghost use Rattle.std.specs.Prelude.{◌≡◌};
 ghost use Rattle.script.specs.Lines.{line_of};
 

@@ -1,5 +1,7 @@
 // What each kind of line of a replay script says: the forms of a line. A form that fits takes the place of the line that
 // was found by the forms before it.
+#![tactic(auto)]
+
 ghost use Rattle.std.specs.Prelude.{◌≡◌, cond, ◌%◌};
 ghost use Rattle.script_lines.specs.Forms.{takes, takes_slot, takes_ranges, by_forms, change_forms, question_forms, command_forms, steps_forms};
 

@@ -1,4 +1,6 @@
 // The application slots of a table, 4,096 bytes lent as a slice, of which the first n entries count.
+#![tactic(auto)]
+
 ghost use Rattle.std.specs.Prelude.{◌≡◌, cond, ◌+◌, ◌≤◌, ◌<◌, length, drop};
 ghost use Rattle.rules.specs.Table.{entry_count, rows, entries, is_slot, slots};
 ghost use Rattle.rules.specs.Readers.{slot_row};

@@ -67,9 +67,9 @@ module _ (n : ℕ) (t : List ℕ) {six : SixEntries} (found : Found (rows n t) s
   not_all_named s h = rw (six_named-below, h)
 
   -- where all six are there, each is the entry of its number
-  module _ (s : Setting) (All_there : below n six ≡ true) where
+  module _ (s : Setting) (all_there : below n six ≡ true) where
     abbrev b : Below n six
-    b = all_below n six All_there
+    b = all_below n six all_there
 
     pub rule_9_by_number : boot_info_at_0 (rows n t) ≡ eqb (entry_at t six.boot.0).start 0
     unfolding boot_info_at_0
@@ -107,4 +107,4 @@ module _ (n : ℕ) (t : List ℕ) {six : SixEntries} (found : Found (rows n t) s
         && on_granules s.granule (entry_at t six.pointers0.0)
         && on_granules s.granule (entry_at t six.pointers1.0))
     unfolding six_right
-    rules_by_number = rw (six_named-below, All_there, rule_9_by_number, rule_10_by_number, rule_11_by_number)
+    rules_by_number = rw (six_named-below, all_there, rule_9_by_number, rule_10_by_number, rule_11_by_number)

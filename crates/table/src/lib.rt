@@ -1,6 +1,8 @@
 // One copy of the sub-partition table: whether it stands by the eleven rules, and the first of them that it breaks. What
 // rules 3 to 7 and 9 to 11 ask of one entry, or of two, is in `entry_tests`; the first entry that does not keep it is
 // found in `entry_rules`.
+#![tactic(auto)]
+
 ghost use Rattle.std.specs.Prelude.{◌≡◌, ◌+◌, ◌≤◌, ◌<◌, length};
 ghost use Rattle.rules.specs.Bytes.{block, block_size};
 ghost use Rattle.rules.specs.Table.{rows, magic_right, header_right, count_right, entries_stand, table_stands, fault};

@@ -1,4 +1,6 @@
 // A table t, of which n entries count, with a row for a new slot behind them, or without one of their rows.
+#![tactic(auto)]
+
 ghost use Rattle.std.specs.Prelude.{◌≡◌, ◌≤◌, ◌<◌, length};
 ghost use Rattle.rules.specs.Bytes.{block_size};
 ghost use Rattle.rules.specs.Table.{entry_count};

@@ -1,9 +1,11 @@
 // Text put into a lent buffer from an index on: bytes, names as they are shown, numbers in decimal.
 //
 // Each function answers where the text ends. What does not fit in the buffer is left out.
+#![tactic(auto)]
+
 ghost use Rattle.std.specs.Prelude.{◌≡◌, [], ◌∷◌, map};
 ghost use Rattle.text.specs.Put.{Put};
-ghost use Rattle.text.specs.Shown.{decimal, shown as as-shown};
+ghost use Rattle.text.specs.Shown.{decimal, shown as as_shown};
 
 pub fn put_byte(out: &mut [u8], at: usize, byte: u8) -> usize
     ensures { Put out.old at (byte ∷ []) out.new result }
@@ -29,7 +31,7 @@ pub fn put_bytes(out: &mut [u8], at: usize, bytes: &[u8]) -> usize
 
 // A byte of a name as it is shown: a question mark for one that is not printable, or a space.
 pub fn shown(byte: u8) -> u8
-    ensures { result ≡ as-shown byte }
+    ensures { result ≡ as_shown byte }
 {
     if byte < 0x21 {
         return b'?';
@@ -41,7 +43,7 @@ pub fn shown(byte: u8) -> u8
 }
 
 pub fn put_shown(out: &mut [u8], at: usize, name: &[u8]) -> usize
-    ensures { Put out.old at (map as-shown name.now) out.new result }
+    ensures { Put out.old at (map as_shown name.now) out.new result }
 {
     let mut end = at;
     let mut i = 0;

@@ -32,13 +32,13 @@ unfolding numbers all
 front w ws e h = rw (add-one, e, h)
 
 -- the words that begin at `end` or above are read
-pub record Read_from (line : List ℕ) (end : ℕ) (row : Row) : Type 0 where
+pub record ReadFrom (line : List ℕ) (end : ℕ) (row : Row) : Type 0 where
   pub done : List (List ℕ)
   pub read : row ≡ numbers done
   pub left : later_words line ≡ later_words (take end line) ++ done
   pub room : length done + end ≤ length line
 
-pub none_read : (line : List ℕ) → Read_from line (length line) (no_numbers true)
+pub none_read : (line : List ℕ) → ReadFrom line (length line) (no_numbers true)
 unfolding numbers all number
 none_read line = record {
   done = [];
@@ -47,7 +47,7 @@ none_read line = record {
   room = omega arith;
 }
 
-module _ {line : List ℕ} {end : ℕ} {row : Row} (so_far : Read_from line end row) where
+module _ {line : List ℕ} {end : ℕ} {row : Row} (so_far : ReadFrom line end row) where
   pub count_inside : row.count + end ≤ length line
   unfolding numbers
   count_inside = rw so_far.read so_far.room
@@ -63,7 +63,7 @@ module _ {line : List ℕ} {end : ℕ} {row : Row} (so_far : Read_from line end 
       → 0 < r
       → LastWordBegins (take end line) r
       → ((ws : List (List ℕ)) → row ≡ numbers ws → after ≡ numbers (drop r (take end line) ∷ ws))
-      → Read_from line (r - 1) after
+      → ReadFrom line (r - 1) after
   one_read {r} h Begins goes =
       let word = drop r (take end line) in
       record {

@@ -1,4 +1,6 @@
 // The words of a line, and the numbers in them.
+#![tactic(auto)]
+
 pub mod words; // where words begin and end
 pub mod numbers; // decimal numbers in them
 

@@ -53,7 +53,7 @@ module _ {img : List ℕ} {v : View} (l : Located img v) where
       record { whole = whole; few = rw (is_count, is_table) l.count_right }
 
   pub has_pointers : (p : List ℕ) → (p ≡ block img v.pointers) × (length p ≡ block_size) → StandingPointers p
-  has_pointers p (is_Block, whole) = record { whole = whole; stands = rw is_Block l.stand }
+  has_pointers p (is_block, whole) = record { whole = whole; stands = rw is_block l.stand }
 
 -- ---- what `view` answered
 

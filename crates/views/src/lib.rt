@@ -1,4 +1,6 @@
 // Where things are on a flash, and which copies are read. Nothing here stores into an image.
+#![tactic(auto)]
+
 mod followed; // refusals 50, 51 and 5
 
 ghost use Rattle.std.specs.Prelude.{◌≡◌};

@@ -1,5 +1,5 @@
--- Demand 3 applied to one list on the quarry image: two refusals, a cut, a repair and a further command. `quarry-list` is the
--- claim for it, `quarry-outcomes` shows by computation that the list has all three outcomes. Assumes nothing.
+-- Demand 3 applied to one list on the quarry image: two refusals, a cut, a repair and a further command. `quarry_list` is the
+-- claim for it, `quarry_outcomes` shows by computation that the list has all three outcomes. Assumes nothing.
 use mathlib.Core.Path.{◌≡◌, refl, sym, ap, ◌∙◌, subst}
 use mathlib.Core.Bool.{true}
 use mathlib.Core.List.{List, [], ◌∷◌}

@@ -39,12 +39,12 @@ module _ (b : Beginning) (t : List ℕ) (at0 : cpb0_of t ≡ b.c0) (at1 : cpb1_o
       none_of_four a b c d (inr (inl x)) = c x
       none_of_four a b c d (inr (inr x)) = d x
 
-module _ (C : CommandSet) (All_right : AllRight C) where
+module _ (C : CommandSet) (all_right : AllRight C) where
   module _ (b : Beginning) (t : List ℕ) (at0 : cpb0_of t ≡ b.c0) (at1 : cpb1_of t ≡ b.c1) where
     open b use {s, first}
 
     item_holds : (img : List ℕ) (r : Reading) (i : Item C) (choice : Bool)
-        → ItemRight C All_right b img r i choice
+        → ItemRight C all_right b img r i choice
         → Holds s t first (flash_after s img i) (outcome s img i) (booked C s img i.command (outcome s img i) choice r)
     item_holds img r i choice w = record {
       reads = reading_is b (flash_after s img i) (booked C s img i.command (outcome s img i) choice r) w.holds;
@@ -60,7 +60,7 @@ module _ (C : CommandSet) (All_right : AllRight C) where
     unfolding Follows AllProper
     every_list [] proper img r h = ([], tt)
     every_list (i ∷ is) proper img r h =
-        let (choice, w) = one_item C All_right b img r h i proper.0 in
+        let (choice, w) = one_item C all_right b img r h i proper.0 in
         let r' : Reading = booked C s img i.command (outcome s img i) choice r in
         let (choices, rest) = every_list is proper.1 (flash_after s img i) r' w.holds in
         (choice ∷ choices, (item_holds img r i choice w, rest))

@@ -23,7 +23,7 @@ AllRight C = (beginning : Beginning) (img : List ℕ) (r : Reading)
     → C.start beginning.s img c ≡ given ss
     → Leads beginning img r (C.changed beginning.s img c r) ss
 
-module _ (C : CommandSet) (All_right : AllRight C) (beginning : Beginning) where
+module _ (C : CommandSet) (all_right : AllRight C) (beginning : Beginning) where
   open beginning use {s}
 
   -- by the book's reading the invariant holds after the item, and a finished item leaves pairs that agree
@@ -39,7 +39,7 @@ module _ (C : CommandSet) (All_right : AllRight C) (beginning : Beginning) where
   unfolding flash_after outcome left_by ended_by booked AgreeIfFinished how_ended progress
   one_item img r h i proper =
       answered (C.start s img i.command) refl
-      (λ ss e. All_right beginning img r h i.command ss proper e)
+      (λ ss e. all_right beginning img r h i.command ss proper e)
     where
       left : List Step → List Step
       left ss = (progress s.granule i img ss).left

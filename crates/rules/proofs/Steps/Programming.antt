@@ -1,4 +1,4 @@
--- Bytes programmed upward, in one pass over the image: `fast-steps`, proved to be `steps`, for where a case is
+-- Bytes programmed upward, in one pass over the image: `fast_steps`, proved to be `steps`, for where a case is
 -- computed. `steps` stores byte by byte, each time from the front of the image. Assumes nothing.
 use mathlib.Core.Path.{◌≡◌, refl, sym, ap, ◌∙◌}
 use mathlib.Core.Bool.{Bool, true, false, cond}

@@ -141,10 +141,10 @@ module _ (s : Setting) (len : ℕ) (t : List ℕ) (fits : len ≤ longest) (st :
       → ((the_block s len t st i).start ≤ j) × (j < (the_block s len t st i).start + s.granule)
       → ⊥
   unfolding starts slot_starts slots six_names
-  slot_off_block i li k l j (from, to) (at_least_lem, below) =
+  slot_off_block i li k l j (from, to) (at_least, below) =
       apart (the_block s len t st i) (get_or ss k no_entry) (block_long s len t st i li) (slot_long k l)
       (slot_off_named (suc (suc i)) (omega arith) (block_named s len t st i li) k l) (rw (start_at ss k) at from) (rw (start_at ss k) at to)
-      at_least_lem below
+      at_least below
     where
       apart : (b e : Entry) → s.granule ≤ b.size → block_size ≤ e.size → Disjoint b e
           → e.start ≤ j

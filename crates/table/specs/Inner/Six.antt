@@ -15,7 +15,7 @@ use Rattle.table.specs.declared.SixEntries.{SixEntries}
 unfoldable pub six_right : Setting → List Entry → Bool
 six_right s es = six_named es && boot_info_at_0 es && tables_as_told s es && blocks_on_granules s es
 
--- the end of `entries-fault`: rules 8 to 11
+-- the end of `entries_fault`: rules 8 to 11
 unfoldable pub six_fault : Setting → List Entry → Fault
 six_fault s es =
     broken_unless 8 no_entry_number (six_named es)

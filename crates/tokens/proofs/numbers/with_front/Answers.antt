@@ -1,0 +1,6 @@
+-- `with_front` reads one word more. Assumes nothing.
+use Rattle.tokens.proofs.Rows.{front}
+use Rattle.tokens.proofs.numbers.with_front.Goals as goal
+
+pub returns : goal.returns
+returns c = λ ws e. front c.args.word.now ws c.number_of-number.ensures e
