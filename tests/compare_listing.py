@@ -2,7 +2,7 @@
 
     python3 tests/compare_listing.py [COUNT [SEED]]
 
-Build the program first: rt check listing.
+Build the program first: (cd crates/listing && rt run </dev/null >/dev/null).
 """
 
 import collections
@@ -26,7 +26,7 @@ from reference import (
     pointer,
 )
 
-PROGRAM = pathlib.Path(__file__).parent.parent / "target" / "bin" / "listing"
+PROGRAM = pathlib.Path(__file__).parent.parent / "crates" / "listing" / "out" / "listing"
 LENGTHS = [65536] * 6 + [0xB000, 0xC000, 0x9000, 0x8000]
 FLAGS = [0] * 12 + [1, 2, 3, 4, 8, 0xFFFFFFFC, 0xFFFFFFFF]
 
@@ -305,7 +305,7 @@ def main(words):
     count = int(words[0]) if words else 4000
     seed = int(words[1]) if len(words) > 1 else 1
     if not PROGRAM.exists():
-        sys.exit(f"{PROGRAM} is missing: run rt check listing")
+        sys.exit(f"{PROGRAM} is missing: run rt run in crates/listing")
     tally = collections.Counter()
     differing = 0
     for k in range(seed, seed + count):

@@ -172,7 +172,7 @@ class Cursor:
                 self.at += 1
 
     def attributes(self) -> None:
-        """Passes `#[no_mangle]` and the like. One that changes what is compiled is refused."""
+        """Passes `#[unsafe(no_mangle)]` and the like. One that changes what is compiled is refused."""
         while self.text() == "#":
             self.at += 1
             self.taken("!")
@@ -241,6 +241,7 @@ class Items:
         self.module, self.cursor, self.folder = module, cursor, folder
 
     def read(self) -> Module:
+        self.cursor.attributes()
         while self.cursor.text():
             visibility(self.cursor)
             self.item(self.cursor.take())

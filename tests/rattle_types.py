@@ -14,6 +14,7 @@ SCALARS |= {"u64": 8, "i64": 8, "f64": 8, "usize": 8, "isize": 8}
 POINTER_SIZE = 8
 REFERENCE_SIZE = 16  # a pointer and a length
 TAG_SIZE = 8
+STANDARD = ("core", "std", "std_alloc", "std_collections", "std_heap", "std_io")  # what every crate uses unlisted
 
 
 class Variant(NamedTuple):
@@ -33,9 +34,9 @@ Found = Union[Module, Declared, Variant, Const, Function, None]
 
 
 def kit_folder() -> list[Path]:
-    """The libraries of the Rattle kit, where `rt` is on the PATH."""
+    """The folder of the Rattle kit's libraries, where `rt` is on the PATH."""
     command = shutil.which("rt")
-    return [Path(command).resolve().parent.parent / "libs"] if command else []
+    return [Path(command).resolve().parent.parent / "rattle"] if command else []
 
 
 def round_up(size: int, unit: int) -> int:
@@ -48,6 +49,7 @@ class Source:
     def __init__(self, root: Path) -> None:
         self.folders = [root / "crates"] + kit_folder()
         self.crates: dict[str, Optional[Module]] = {}
+        self.names_of_kit: Optional[set[str]] = None
 
     def crate(self, name: str) -> Optional[Module]:
         if name not in self.crates:
@@ -56,12 +58,24 @@ class Source:
         return self.crates[name]
 
     def methods(self, name: str, owner: str = "") -> list[Function]:
-        """Every method of that name, of one type or of any."""
-        names = sorted(crate.name for folder in self.folders for crate in folder.iterdir())
+        """Every method of that name in the repository's libraries, of one type or of any. Nothing else can be meant: no
+        library reaches what a program declares, and a method of the kit's is refused where the type is not known."""
+        names = sorted(root.parent.parent.name for root in self.folders[0].glob("*/src/lib.rt"))
         crates = [self.crate(crate) for crate in names]
         modules = [module for crate in crates if crate for module in crate.all()]
         methods = [method for module in modules for method in module.methods]
-        return [method for method in methods if method.name == name and owner in ("", method.owner)]
+        found = [method for method in methods if method.name == name and owner in ("", method.owner)]
+        if found and not owner and name in self.kit_names():
+            raise Unknown(f"whether the method '{name}' is {found[0]} or the kit's is not known")
+        return found
+
+    def kit_names(self) -> set[str]:
+        """The functions that the kit's standard libraries declare. Their traits and generics are more than is read here."""
+        if self.names_of_kit is None:
+            sources = [source for folder in self.folders[1:] for crate in STANDARD for source in folder.glob(f"{crate}/src/**/*.rt")]
+            texts = (source.read_text(encoding="utf-8") for source in sources)
+            self.names_of_kit = {name for text in texts for name in re.findall(r"\bfn (\w+)", text)}
+        return self.names_of_kit
 
     # ---- names
 

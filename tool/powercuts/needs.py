@@ -110,9 +110,9 @@ def tool_sources():
 
 
 def library():
-    path = os.path.join(layout.ROOT, "target", "staticlib", "liblinked.a")
+    path = os.path.join(layout.ROOT, "crates", "linked_c", "out", "liblinked_c.a")
     if not os.path.exists(path):
-        fail("target/staticlib/liblinked.a is not there: run rt staticlib linked")
+        fail("crates/linked_c/out/liblinked_c.a is not there: run rt lib in crates/linked_c")
     return path
 
 
