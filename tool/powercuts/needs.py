@@ -110,9 +110,9 @@ def tool_sources():
 
 
 def library():
-    path = os.path.join(layout.ROOT, "crates", "linked_c", "out", "liblinked_c.a")
+    path = os.path.join(layout.ROOT, "target", "staticlib", "liblinked.a")
     if not os.path.exists(path):
-        fail("crates/linked_c/out/liblinked_c.a is not there: run rt lib in crates/linked_c")
+        fail("target/staticlib/liblinked.a is not there: run link/library")
     return path
 
 
