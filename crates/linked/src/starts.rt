@@ -17,6 +17,7 @@ pub fn delunkpawi_job_size() -> usize
 }
 
 // Enable a slot: it comes first in the boot order.
+#[tactic(auto, unfolding(commands::specs::Begins::command_of))]
 pub fn delunkpawi_enable(
     image: &[u8],
     granule: usize,
@@ -33,6 +34,7 @@ pub fn delunkpawi_enable(
 }
 
 // Disable a slot: it leaves the boot order.
+#[tactic(auto, unfolding(commands::specs::Begins::command_of))]
 pub fn delunkpawi_disable(
     image: &[u8],
     granule: usize,
@@ -49,6 +51,7 @@ pub fn delunkpawi_disable(
 }
 
 // Rename a slot.
+#[tactic(auto, unfolding(commands::specs::Begins::command_of))]
 pub fn delunkpawi_rename(
     image: &[u8],
     granule: usize,
@@ -67,6 +70,7 @@ pub fn delunkpawi_rename(
 }
 
 // Create a slot of a length: it comes last in the table, at the lowest start that is free and that no place holds.
+#[tactic(auto, unfolding(commands::specs::Begins::command_of))]
 pub fn delunkpawi_create(
     image: &[u8],
     granule: usize,
@@ -85,6 +89,7 @@ pub fn delunkpawi_create(
 }
 
 // Delete a slot that is not in the boot order: the slots after it are one number lower.
+#[tactic(auto, unfolding(commands::specs::Begins::command_of))]
 pub fn delunkpawi_delete(
     image: &[u8],
     granule: usize,
@@ -101,6 +106,7 @@ pub fn delunkpawi_delete(
 }
 
 // Repair: where a pair disagrees, the copy not read becomes the copy read.
+#[tactic(auto, unfolding(commands::specs::Begins::command_of))]
 pub fn delunkpawi_repair(
     image: &[u8],
     granule: usize,

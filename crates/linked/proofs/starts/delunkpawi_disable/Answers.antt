@@ -1,7 +1,0 @@
--- `delunkpawi_disable` starts disable into a buffer. Assumes nothing.
-use Rattle.commands.specs.Begins.{command_of}
-use Rattle.linked.proofs.starts.delunkpawi_disable.Goals as goal
-
-pub returns : goal.returns
-unfolding command_of
-returns c = c.start_into.ensures

@@ -1,7 +1,0 @@
--- `delunkpawi_rename` starts rename into a buffer. Assumes nothing.
-use Rattle.commands.specs.Begins.{command_of}
-use Rattle.linked.proofs.starts.delunkpawi_rename.Goals as goal
-
-pub returns : goal.returns
-unfolding command_of
-returns c = c.start_into.ensures

@@ -1,7 +1,0 @@
--- `delunkpawi_repair` starts repair into a buffer. Assumes nothing.
-use Rattle.commands.specs.Begins.{command_of}
-use Rattle.linked.proofs.starts.delunkpawi_repair.Goals as goal
-
-pub returns : goal.returns
-unfolding command_of
-returns c = c.start_into.ensures
