@@ -4,13 +4,17 @@
 use std::io;
 use std::io::{Read, Write};
 
-// One byte more than an image may have, so that a longer one is seen.
-const ROOM: u64 = 65537;
+// Room for one byte more than an image may have, so that a longer one is seen.
+fn image_buffer() -> [u8; 65537] {
+    [0; 65537]
+}
 
 fn main(rt: HostRuntime) -> io::Result<()> {
-    let mut image = Vec::new(rt.alloc());
-    rt.reader().take(ROOM).read_to_end(&mut image)?;
+    let mut image = image_buffer();
+    let mut rest = &mut image[..];
+    let got = io::copy(&mut rt.reader().take(65537), &mut rest)?;
+    let n = (got as usize).min(image.len());
     let mut out = [0u8; 65536];
-    let end = report::listing_of(&image, &mut out);
+    let end = report::listing_of(&image[..n], &mut out);
     io::writer(&rt).write_all(&out[..end])
 }

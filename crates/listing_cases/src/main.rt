@@ -7,19 +7,23 @@ use std::io::Read;
 use std::rt::{Env, Files};
 use std::{io, str};
 
-// One byte more than an image may have, so that a longer one is seen.
-const ROOM: u64 = 65537;
+// Room for one byte more than an image may have, so that a longer one is seen.
+fn image_buffer() -> [u8; 65537] {
+    [0; 65537]
+}
 
-fn list_image<R: Read>(rt: &(impl Alloc + Print), file: &mut R) -> io::Result<()> {
-    let mut image = Vec::new(rt.alloc());
-    file.by_ref().take(ROOM).read_to_end(&mut image)?;
+fn list_image<R: Read>(rt: &impl Print, file: &mut R) -> io::Result<()> {
+    let mut image = image_buffer();
+    let mut rest = &mut image[..];
+    let got = io::copy(&mut file.by_ref().take(65537), &mut rest)?;
+    let n = (got as usize).min(image.len());
     let mut out = [0u8; 65536];
-    let end = report::listing_of(&image, &mut out);
+    let end = report::listing_of(&image[..n], &mut out);
     rt.write_all(&out[..end])
 }
 
 // A name that is not UTF-8 opens no file.
-fn list_file(rt: &(impl Files + Alloc + Print + Eprint), path: &[u8]) -> io::Result<()> {
+fn list_file(rt: &(impl Files + Print + Eprint), path: &[u8]) -> io::Result<()> {
     rt.write_all(path)?;
     println!(rt;)?;
     let name = match str::from_utf8(path) {

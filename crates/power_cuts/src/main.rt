@@ -247,12 +247,14 @@ fn try_image(rt: &impl Print, image: &[u8], setting: Setting) -> io::Result<()> 
     try_command(rt, image, setting, Command::Repair)
 }
 
-fn try_file(rt: &(impl Files + Alloc + Print), path: &str, setting: Setting) -> io::Result<()> {
+fn try_file(rt: &(impl Files + Print), path: &str, setting: Setting) -> io::Result<()> {
     printing::print_image(rt, path, choices::count(setting.granule))?;
-    let mut image = Vec::new(rt.alloc());
+    let mut image = image_buffer();
     let mut file = File::open(rt, path)?;
-    file.by_ref().take(LONGEST as u64).read_to_end(&mut image)?;
-    try_image(rt, &image, setting)
+    let mut rest = &mut image[..];
+    let got = io::copy(&mut file.by_ref().take(LONGEST as u64), &mut rest)?;
+    let n = (got as usize).min(LONGEST);
+    try_image(rt, &image[..n], setting)
 }
 
 fn main(rt: HostRuntime) -> io::Result<()> {

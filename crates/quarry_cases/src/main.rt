@@ -1,6 +1,8 @@
 // Runs the cases of document 01, and of document 02, Nos. 2, 9 and 5, on the images under data/ and prints what happens.
 #![tactic(auto)]
 
+ghost use Rattle.std.specs.Prelude.{◌≡◌, length};
+
 use commands::Command;
 use rules::{EntryNo, PlaceNo, Setting, SlotNo};
 use std::fs::File;
@@ -11,11 +13,17 @@ use std::rt::Files;
 mod printing;
 
 // The length of the longest of the images.
-const LONGEST: u64 = 528384;
+const LONGEST: usize = 528384;
 
 const CPB0: usize = 0x6000;
 
 const CPB1: usize = 0x7000;
+
+fn image_buffer() -> [u8; LONGEST]
+    ensures { 528384 ≡ length result }
+{
+    [0; LONGEST]
+}
 
 fn quarry() -> Setting {
     Setting {
@@ -181,21 +189,18 @@ fn run_case(rt: &impl Print, case: Case, image: &mut [u8]) -> io::Result<()> {
     }
 }
 
-fn on_image(
-    rt: &(impl Files + Alloc + Print),
-    title: &str,
-    path: &str,
-    case: Case,
-) -> io::Result<()> {
+fn on_image(rt: &(impl Files + Print), title: &str, path: &str, case: Case) -> io::Result<()> {
     print!(rt; "{title}")?;
-    let mut image = Vec::new(rt.alloc());
+    let mut image = image_buffer();
     let mut file = File::open(rt, path)?;
-    file.by_ref().take(LONGEST).read_to_end(&mut image)?;
-    run_case(rt, case, &mut image)
+    let mut rest = &mut image[..];
+    let got = io::copy(&mut file.by_ref().take(LONGEST as u64), &mut rest)?;
+    let n = (got as usize).min(LONGEST);
+    run_case(rt, case, &mut image[..n])
 }
 
 // Cases 1 to 6: the order, single places, a cut.
-fn the_order_and_places(rt: &(impl Files + Alloc + Print)) -> io::Result<()> {
+fn the_order_and_places(rt: &(impl Files + Print)) -> io::Result<()> {
     on_image(rt, "case 1\n", "quarry.img", Case::OrderOnly)?;
     on_image(
         rt,
@@ -210,7 +215,7 @@ fn the_order_and_places(rt: &(impl Files + Alloc + Print)) -> io::Result<()> {
 }
 
 // Cases 7 to 9: the last place, a rewrite cut, half-cleared starts.
-fn rewrites(rt: &(impl Files + Alloc + Print)) -> io::Result<()> {
+fn rewrites(rt: &(impl Files + Print)) -> io::Result<()> {
     on_image(
         rt,
         "case 7, highest used place 506\n",
@@ -250,7 +255,7 @@ fn rewrites(rt: &(impl Files + Alloc + Print)) -> io::Result<()> {
 }
 
 // Case 10: names, and tables of many entries.
-fn names_and_tables(rt: &(impl Files + Alloc + Print)) -> io::Result<()> {
+fn names_and_tables(rt: &(impl Files + Print)) -> io::Result<()> {
     on_image(rt, "case 10, names\n", "quarry.img", Case::Names)?;
     on_image(
         rt,
@@ -268,7 +273,7 @@ fn names_and_tables(rt: &(impl Files + Alloc + Print)) -> io::Result<()> {
 }
 
 // Document 02, Nos. 2, 9 and 5.
-fn of_document_02(rt: &(impl Files + Alloc + Print)) -> io::Result<()> {
+fn of_document_02(rt: &(impl Files + Print)) -> io::Result<()> {
     on_image(rt, "empty slots\n", "quarry.img", Case::EmptySlots)?;
     on_image(
         rt,

@@ -5,7 +5,8 @@ use rules::Setting;
 use std::io;
 use std::io::Write;
 
-// `length`: that of the image. `busy`: there is a current job. `line`: the number of the line.
+// `length`: that of the image. `busy`: there is a current job. `line`: the number of the line. `used`: how many of its
+// bytes are read.
 #[derive(Clone, Copy)]
 pub struct Desk {
     pub length: usize,
@@ -13,6 +14,7 @@ pub struct Desk {
     pub busy: bool,
     pub job: Job,
     pub line: u64,
+    pub used: usize,
     pub ended: bool,
 }
 
@@ -28,6 +30,7 @@ pub fn new_desk() -> Desk {
         busy: false,
         job,
         line: 1,
+        used: 0,
         ended: false,
     }
 }
@@ -57,9 +60,16 @@ pub fn without_job(desk: Desk) -> Desk {
     next
 }
 
+pub fn with_used(desk: Desk, used: usize) -> Desk {
+    let mut next = desk;
+    next.used = used;
+    next
+}
+
 // The last number is never passed.
 pub fn next_line(desk: Desk) -> Desk {
     let mut next = desk;
+    next.used = 0;
     if desk.line < u64::MAX {
         next.line = desk.line + 1;
     }
@@ -74,6 +84,6 @@ pub fn end(desk: Desk) -> Desk {
 
 // Ends the script at a line that is no line, or that asks for what is not there.
 pub fn error<W: Write>(desk: Desk, out: &mut W) -> io::Result<Desk> {
-    printing::print_number(out, "error", desk.line)?;
+    printing::print_number(out, b"error", desk.line)?;
     Ok(end(desk))
 }

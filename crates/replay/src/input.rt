@@ -1,58 +1,98 @@
-// Standard input, line by line.
+// Pieces of standard input, made into lines.
 use super::desk::Desk;
 use super::{changes, desk, questions, starts, steps};
+use fields::bounds::min;
 use script_lines::Line;
-use std::alloc::Global;
 use std::io;
-use std::io::{BufRead, BufReader, Read, Write};
+use std::io::{Read, Write};
 
-// The longest line.
-const LINE_ROOM: usize = 16384;
-
-// Nothing says that the input ends, so turns are counted up to a number that no run reaches. What is answered goes out
-// before more input is waited for.
-pub fn replay<R: Read + Drop, W: Write>(
-    alloc: Global,
-    lines: &mut BufReader<R>,
+// Nothing says that the input ends, so turns are counted up to a number that no run reaches.
+pub fn replay<R: Read, W: Write>(
+    input: &mut R,
     out: &mut W,
     room: &mut [u8],
+    line: &mut [u8],
 ) -> io::Result<()> {
-    let mut line = Vec::new(alloc);
     let mut desk = desk::new_desk();
     for _ in 0..u64::MAX {
         if desk.ended {
             break;
         }
-        if !lines.buffer().contains(&b'\n') {
-            out.flush()?;
-        }
-        line.clear();
-        lines
-            .by_ref()
-            .take(LINE_ROOM as u64 + 1)
-            .read_until(b'\n', &mut line)?;
-        desk = take_line(desk, out, room, &line)?;
+        desk = read_piece(desk, input, out, room, line)?;
     }
     Ok(())
 }
 
-// A line, which ends in its LF, or what the input ends in.
-fn take_line<W: Write>(desk: Desk, out: &mut W, room: &mut [u8], line: &[u8]) -> io::Result<Desk> {
-    match line {
-        [whole @ .., b'\n'] => Ok(desk::next_line(do_line(desk, out, room, whole)?)),
-        _ => finish(desk, out, room, line),
+fn read_piece<R: Read, W: Write>(
+    desk: Desk,
+    input: &mut R,
+    out: &mut W,
+    room: &mut [u8],
+    line: &mut [u8],
+) -> io::Result<Desk> {
+    let mut piece = [0u8; 65536];
+    let n = input.read(&mut piece)?;
+    if n == 0 {
+        return finish(desk, out, room, line);
     }
+    take_piece(desk, out, room, line, &piece[..n])
 }
 
-// The last line may lack its LF. One that is too long is not read to its end.
+// The last line may lack its LF.
 fn finish<W: Write>(desk: Desk, out: &mut W, room: &mut [u8], line: &[u8]) -> io::Result<Desk> {
-    if line.len() == 0 {
+    if desk.used == 0 {
         return Ok(desk::end(desk));
     }
-    if LINE_ROOM < line.len() {
+    let end = min(desk.used, line.len());
+    Ok(desk::end(do_line(desk, out, room, &line[0..end])?))
+}
+
+fn take_piece<W: Write>(
+    desk: Desk,
+    out: &mut W,
+    room: &mut [u8],
+    line: &mut [u8],
+    piece: &[u8],
+) -> io::Result<Desk> {
+    let mut next = desk;
+    let mut at = 0;
+    while at < piece.len() {
+        let end = at + names::length_before(&piece[at..], b'\n');
+        next = take_part(next, out, room, line, &piece[at..end], end < piece.len())?;
+        if next.ended {
+            return Ok(next);
+        }
+        at = end + 1;
+    }
+    Ok(next)
+}
+
+// Adds a part of a line; the line is done once it is whole.
+fn take_part<W: Write>(
+    desk: Desk,
+    out: &mut W,
+    room: &mut [u8],
+    line: &mut [u8],
+    part: &[u8],
+    whole: bool,
+) -> io::Result<Desk> {
+    let used = min(desk.used, line.len());
+    if line.len() - used < part.len() {
         return desk::error(desk, out);
     }
-    Ok(desk::end(do_line(desk, out, room, line)?))
+    let end = used + part.len();
+    store(&mut line[used..end], part);
+    if !whole {
+        return Ok(desk::with_used(desk, end));
+    }
+    Ok(desk::next_line(do_line(desk, out, room, &line[0..end])?))
+}
+
+fn store(to: &mut [u8], bytes: &[u8]) {
+    let n = min(to.len(), bytes.len());
+    for i in 0..n {
+        to[i] = bytes[i];
+    }
 }
 
 fn do_line<W: Write>(desk: Desk, out: &mut W, room: &mut [u8], line: &[u8]) -> io::Result<Desk> {

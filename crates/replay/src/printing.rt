@@ -1,23 +1,35 @@
 // Answers on standard output, each a line, but for the listing.
+use answer_parts::put_number;
 use fields::bounds::min;
 use rules::{EntryNo, Fault, Refusal, Setting, SlotInfo, SlotNo};
 use std::io;
 use std::io::Write;
 
 // The front of a buffer.
-fn write_front<W: Write>(out: &mut W, text: &[u8], end: usize) -> io::Result<()> {
-    let n = min(end, text.len());
-    out.write_all(&text[0..n])
+fn write_front<W: Write>(out: &mut W, line: &[u8], end: usize) -> io::Result<()> {
+    let n = min(end, line.len());
+    out.write_all(&line[0..n])
+}
+
+// The front of a buffer as a line.
+fn write_line<W: Write>(out: &mut W, line: &mut [u8], end: usize) -> io::Result<()> {
+    let after = text::put_byte(line, end, b'\n');
+    write_front(out, line, after)
 }
 
 // A word.
-pub fn print_word<W: Write>(out: &mut W, word: &str) -> io::Result<()> {
-    writeln!(out, "{word}")
+pub fn print_word<W: Write>(out: &mut W, word: &[u8]) -> io::Result<()> {
+    let mut line = [0u8; 64];
+    let end = text::put_bytes(&mut line, 0, word);
+    write_line(out, &mut line, end)
 }
 
 // A word and a number.
-pub fn print_number<W: Write>(out: &mut W, word: &str, number: u64) -> io::Result<()> {
-    writeln!(out, "{word} {number}")
+pub fn print_number<W: Write>(out: &mut W, word: &[u8], number: u64) -> io::Result<()> {
+    let mut line = [0u8; 64];
+    let end = text::put_bytes(&mut line, 0, word);
+    let after = put_number(&mut line, end, number);
+    write_line(out, &mut line, after)
 }
 
 // The number of a refusal, and where no table copy stands the rule and the entry told for SPT0 and for SPT1.
@@ -25,34 +37,36 @@ pub fn print_refused<W: Write>(out: &mut W, why: Refusal) -> io::Result<()> {
     if (why.number == 50) | (why.number == 51) {
         return print_faults(out, why);
     }
-    print_number(out, "refused", why.number as u64)
+    print_number(out, b"refused", why.number as u64)
 }
 
 fn print_faults<W: Write>(out: &mut W, why: Refusal) -> io::Result<()> {
-    write!(out, "refused {}", why.number)?;
-    print_fault(out, why.fault0)?;
-    print_fault(out, why.fault1)?;
-    writeln!(out)
+    let mut line = [0u8; 128];
+    let mut end = text::put_bytes(&mut line, 0, b"refused");
+    end = put_number(&mut line, end, why.number as u64);
+    end = put_fault(&mut line, end, why.fault0);
+    end = put_fault(&mut line, end, why.fault1);
+    write_line(out, &mut line, end)
 }
 
-fn print_fault<W: Write>(out: &mut W, fault: Fault) -> io::Result<()> {
-    write!(out, " {} {}", fault.rule, row_of(fault.entry))
+fn put_fault(line: &mut [u8], at: usize, fault: Fault) -> usize {
+    let end = put_number(line, at, fault.rule as u64);
+    put_number(line, end, row_of(fault.entry))
 }
 
 // Slot numbers in their order.
 pub fn print_order<W: Write>(out: &mut W, row: &[u32]) -> io::Result<()> {
-    write!(out, "order")?;
-    for slot in row {
-        write!(out, " {slot}")?;
-    }
-    writeln!(out)
+    let mut line = [0u8; 4096];
+    let end = text::put_bytes(&mut line, 0, b"order");
+    let after = answer_parts::put_numbers(&mut line, end, row);
+    write_line(out, &mut line, after)
 }
 
 // The listing of an image, in as many lines as it has. The buffer takes it whole (`listing_for_whole`).
 pub fn print_listing<W: Write>(out: &mut W, setting: Setting, image: &[u8]) -> io::Result<()> {
-    let mut text = [0u8; 65536];
-    let end = report::listing_for(image, setting, &mut text);
-    out.write_all(&text[..end])
+    let mut lines = [0u8; 65536];
+    let end = report::listing_for(image, setting, &mut lines);
+    out.write_all(&lines[..end])
 }
 
 // A slot's number, entry, name and info.
@@ -62,9 +76,16 @@ pub fn print_slot<W: Write>(
     info: SlotInfo,
     name: &[u8],
 ) -> io::Result<()> {
-    write!(out, "slot {} {} ", slot.0, row_of(info.entry))?;
-    write_piece(out, name)?;
-    writeln!(out, " {} {} {}", info.start, info.size, info.flags)
+    let mut line = [0u8; 256];
+    let mut end = text::put_bytes(&mut line, 0, b"slot");
+    end = put_number(&mut line, end, slot.0 as u64);
+    end = put_number(&mut line, end, row_of(info.entry));
+    end = text::put_byte(&mut line, end, b' ');
+    end = answer_parts::hex::put(&mut line, end, name);
+    end = put_number(&mut line, end, info.start);
+    end = put_number(&mut line, end, info.size);
+    end = put_number(&mut line, end, info.flags);
+    write_line(out, &mut line, end)
 }
 
 fn row_of(entry: EntryNo) -> u64 {
@@ -73,17 +94,21 @@ fn row_of(entry: EntryNo) -> u64 {
 
 // The length of a dump and the sum of its bytes.
 pub fn print_dump<W: Write>(out: &mut W, length: usize, sum: u64) -> io::Result<()> {
-    writeln!(out, "dump {length} {sum}")
+    let mut line = [0u8; 64];
+    let mut end = text::put_bytes(&mut line, 0, b"dump");
+    end = put_number(&mut line, end, length as u64);
+    end = put_number(&mut line, end, sum);
+    write_line(out, &mut line, end)
 }
 
 // Bytes in hexadecimal, however many.
 pub fn print_bytes<W: Write>(out: &mut W, bytes: &[u8]) -> io::Result<()> {
-    write!(out, "bytes")?;
+    out.write_all(b"bytes")?;
     if 0 < bytes.len() {
-        write!(out, " ")?;
+        out.write_all(b" ")?;
         write_hex(out, bytes)?;
     }
-    writeln!(out)
+    out.write_all(b"\n")
 }
 
 // As many bytes as are put into a buffer of 4,096 at a time.
@@ -97,7 +122,7 @@ fn write_hex<W: Write>(out: &mut W, bytes: &[u8]) -> io::Result<()> {
 }
 
 fn write_piece<W: Write>(out: &mut W, bytes: &[u8]) -> io::Result<()> {
-    let mut text = [0u8; 4096];
-    let end = answer_parts::hex::put(&mut text, 0, bytes);
-    write_front(out, &text, end)
+    let mut line = [0u8; 4096];
+    let end = answer_parts::hex::put(&mut line, 0, bytes);
+    write_front(out, &line, end)
 }

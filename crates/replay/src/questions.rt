@@ -91,7 +91,7 @@ fn tell_bytes<W: Write>(out: &mut W, image: &[u8], at: usize, n: usize) -> io::R
 }
 
 fn tell_sum<W: Write>(out: &mut W, image: &[u8]) -> io::Result<bool> {
-    printing::print_number(out, "sum", answer_parts::sum::fnv1a(image))?;
+    printing::print_number(out, b"sum", answer_parts::sum::fnv1a(image))?;
     Ok(true)
 }
 

@@ -33,7 +33,7 @@ fn run<W: Write>(desk: Desk, out: &mut W, image: &mut [u8], budget: usize) -> io
     let did = ran.did;
     match did {
         Did::Refused(why) => printing::print_refused(out, why)?,
-        Did::Steps(n) => printing::print_number(out, "ran", n as u64)?,
+        Did::Steps(n) => printing::print_number(out, b"ran", n as u64)?,
     }
     let after = ran.job;
     Ok(desk::with_job(desk, after))
@@ -81,7 +81,7 @@ fn torn<W: Write>(
 }
 
 fn dropped<W: Write>(desk: Desk, out: &mut W) -> io::Result<Desk> {
-    printing::print_word(out, "cut")?;
+    printing::print_word(out, b"cut")?;
     Ok(desk::without_job(desk))
 }
 

@@ -1,0 +1,6 @@
+-- Each turn leaves less of the piece. Assumes nothing.
+use Rattle.std.proofs.Common.{◌-◌, length}
+use Rattle.replay.proofs.input.take_piece.Given as goal
+
+abbrev pub decreases-loop-at : goal.decreases-loop-at
+decreases-loop-at g l = length l.piece - l.at
