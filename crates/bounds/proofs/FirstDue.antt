@@ -7,6 +7,7 @@ use Rattle.rules.specs.Answers.{Answer, refused, numbered, unless}
 use Rattle.rules.specs.Numbers.{length_right, granule_right, addresses_right}
 use Rattle.rules.specs.declared.Setting.{Setting}
 use Rattle.bounds.specs.Inner.Due.{due, NoneDue}
+use Rattle.rules.specs.declared.Refusal.TheVariants.{BadLength, BadGranule, BadAddresses}
 
 -- ---- the three tests in their order
 
@@ -15,7 +16,7 @@ abbrev first : Bool → Bool → Bool → ℕ
 first l g p = cond l (cond g (cond p 0 3) 2) 1
 
 first_refuses : {A : Type 0} (l g p : Bool) (a : Answer A) → (first l g p ≡ 0 → ⊥)
-    → unless 1 l (unless 2 g (unless 3 p a)) ≡ refused (numbered (first l g p))
+    → unless BadLength l (unless BadGranule g (unless BadAddresses p a)) ≡ refused (numbered (first l g p))
 unfolding unless
 first_refuses true true true a h = absurd (h refl)
 first_refuses true true false a h = refl
@@ -33,7 +34,7 @@ all_pass false g p h = absurd (omega (arith, h))
 module _ (s : Setting) (len : ℕ) {r : ℕ} (e : r ≡ due s len) where
   -- whatever is asked after the three tests
   pub was_due : {A : Type 0} (a : Answer A) → (r ≡ 0 → ⊥)
-      → unless 1 (length_right len) (unless 2 (granule_right s.granule) (unless 3 (addresses_right s len) a))
+      → unless BadLength (length_right len) (unless BadGranule (granule_right s.granule) (unless BadAddresses (addresses_right s len) a))
       ≡ refused (numbered r)
   unfolding due
   was_due a h =

@@ -1,12 +1,12 @@
 -- The number and the lent numbers of an answer that is known. Assumes nothing.
 use mathlib.Core.Path.{◌≡◌}
 use Prim.Native.Nat.{ℕ}
-use Rattle.rules.specs.Answers.{Answer, refused, given}
+use Rattle.rules.specs.Answers.{Answer, refused, given, number_of}
 use Rattle.rules.specs.declared.Refusal.{Refusal}
 use Rattle.codes.specs.Answered.{number, kept}
 
 module _ {A : Type 0} {a : Answer A} where
-  pub number-refused : {why : Refusal} → refused why ≡ a → why.number ≡ number a
+  pub number-refused : {why : Refusal} → refused why ≡ a → number_of why ≡ number a
   unfolding number
   number-refused e = rw (← e)
 

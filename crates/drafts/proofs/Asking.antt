@@ -9,7 +9,7 @@ use borrow.Author.Tests.{le-ltb, lt-ltb, ltb-true}
 use lib.ListN.{length, get_or, drop}
 use Rattle.rules.specs.Lists.{member}
 use Rattle.rules.specs.Bytes.{block, block_size}
-use Rattle.rules.specs.Answers.{Answer, refused, given, numbered, unless, ◌>>=◌}
+use Rattle.rules.specs.Answers.{Answer, refused, given, unless, ◌>>=◌}
 use Rattle.rules.specs.declared.Setting.{Setting}
 use Rattle.rules.specs.declared.Refusal.{Refusal}
 use Rattle.rules.specs.Table.{entry_count, entries, rows, slots, starts}
@@ -31,6 +31,7 @@ use Rattle.drafts.specs.declared.Outcome.TheVariants.{Started, Refused}
 use Rattle.drafts.proofs.Drafting.{drafts_job}
 use Rattle.drafts.proofs.EqualCopies.{pairs_agree_if_equal}
 use Rattle.drafts.proofs.Locating.{slot_inside}
+use Rattle.rules.specs.declared.Refusal.TheVariants.{CopiesDiffer, NoSuchSlot, NotInOrder, NameNotAllowed, NameTaken, SlotEmpty, NoPlaceLeft}
 
 -- ---- refusals 8 and 43: a slot is in the boot order if a place gives it
 
@@ -45,13 +46,13 @@ in_order_by img v k t p ks et ep ek = rw (ek, ← et, ← ep) (in_order (starts 
 -- ---- refusals 6 and 7
 
 module _ (img : List ℕ) (v : View) (k : ℕ) where
-  pub copies_differ : copies_equal img v ≡ false → slot_asked img v k ≡ refused (numbered 6)
+  pub copies_differ : copies_equal img v ≡ false → slot_asked img v k ≡ refused CopiesDiffer
   unfolding slot_asked unless
   copies_differ f = rw f
 
   module _ (t : copies_equal img v ≡ true) (n m : ℕ) (counted : n ≡ entry_count (block img v.table))
       (is_count : m ≡ length (slots (rows n (block img v.table)))) where
-    pub no_such_slot : m ≤ k → slot_asked img v k ≡ refused (numbered 7)
+    pub no_such_slot : m ≤ k → slot_asked img v k ≡ refused NoSuchSlot
     unfolding slot_asked unless slot_there entries
     no_such_slot h = rw (t, ← counted, ← is_count, le-ltb k m h)
 
@@ -61,7 +62,7 @@ module _ (img : List ℕ) (v : View) (k : ℕ) where
 
 -- two tests asked before what follows them
 asked_first : {A : Type 0} (x : Answer A) (a b : Bool)
-    → unless 6 a (unless 7 b x) ≡ ◌>>=◌ {A = Unit {0}} (unless 6 a (unless 7 b (given tt))) (λ _. x)
+    → unless CopiesDiffer a (unless NoSuchSlot b x) ≡ ◌>>=◌ {A = Unit {0}} (unless CopiesDiffer a (unless NoSuchSlot b (given tt))) (λ _. x)
 unfolding unless ◌>>=◌
 asked_first x true true = refl
 asked_first x true false = refl
@@ -69,7 +70,7 @@ asked_first x false b = refl
 
 module _ (s : Setting) (img : List ℕ) (v : View) (h : view s img ≡ given v) (k : ℕ) where
   asked_by : {A : Type 0} (x : Answer A)
-      → unless 6 (agree_by s img v) (unless 7 (slot_there (entries (block img v.table)) k) x)
+      → unless CopiesDiffer (agree_by s img v) (unless NoSuchSlot (slot_there (entries (block img v.table)) k) x)
       ≡ slot_asked img v k >>= λ _. x
   unfolding slot_asked unless ◌>>=◌
   asked_by x =
@@ -78,7 +79,7 @@ module _ (s : Setting) (img : List ℕ) (v : View) (h : view s img ≡ given v) 
 
   module _ (o : Outcome) (asked : outcome o ≡ slot_asked img v k) where
     pub refused_by : {A : Type 0} (x : Answer A) (why : Refusal) → o ≡ Refused why
-        → unless 6 (agree_by s img v) (unless 7 (slot_there (entries (block img v.table)) k) x) ≡ refused why
+        → unless CopiesDiffer (agree_by s img v) (unless NoSuchSlot (slot_there (entries (block img v.table)) k) x) ≡ refused why
     unfolding outcome ◌>>=◌
     refused_by x why q = asked_by x ∙ rw (← asked, q)
 
@@ -96,7 +97,7 @@ module _ (s : Setting) (img : List ℕ) (v : View) (h : view s img ≡ given v) 
 
     module _ (q : o ≡ Started) where
       pub passed_by : {A : Type 0} (x : Answer A)
-          → unless 6 (agree_by s img v) (unless 7 (slot_there (entries (block img v.table)) k) x) ≡ x
+          → unless CopiesDiffer (agree_by s img v) (unless NoSuchSlot (slot_there (entries (block img v.table)) k) x) ≡ x
       unfolding outcome ◌>>=◌
       passed_by x = asked_by x ∙ rw (← asked, q)
 
@@ -104,8 +105,8 @@ module _ (s : Setting) (img : List ℕ) (v : View) (h : view s img ≡ given v) 
       unfolding outcome slot_asked
       slot_is_there =
           let e : slot_asked img v k ≡ given tt = sym asked ∙ ap outcome q in
-          let (_, e7) = unless-given 6 (copies_equal img v) _ tt e in
-          (unless-given 7 (slot_there (entries (block img v.table)) k) (given tt) tt e7).0
+          let (_, e7) = unless-given CopiesDiffer (copies_equal img v) _ tt e in
+          (unless-given NoSuchSlot (slot_there (entries (block img v.table)) k) (given tt) tt e7).0
 
       -- ---- the commands after these, by the table t and the pointer block p read
 
@@ -117,12 +118,12 @@ module _ (s : Setting) (img : List ℕ) (v : View) (h : view s img ≡ given v) 
         pub begins_inside : a + block_size ≤ length img
         begins_inside = rw (ea, et) (slot_inside s img v h k (slot_counted (block img v.table) refl))
 
-        pub enable-refused_14 : slot_empty img a ≡ true → job s img v (enable k) ≡ refused (numbered 14)
+        pub enable-refused_14 : slot_empty img a ≡ true → job s img v (enable k) ≡ refused SlotEmpty
         unfolding job unless
         enable-refused_14 e = passed_by _ ∙ rw (← et, ← ea, e)
 
         module _ (f : slot_empty img a ≡ false) (p : List ℕ) (ep : p ≡ block img v.pointers) where
-          pub enable-refused_15 : enough_places (starts t) p k ≡ false → job s img v (enable k) ≡ refused (numbered 15)
+          pub enable-refused_15 : enough_places (starts t) p k ≡ false → job s img v (enable k) ≡ refused NoPlaceLeft
           unfolding job unless
           enable-refused_15 full = passed_by _ ∙ rw (← et, ← ea, f, ← ep, full)
 
@@ -138,7 +139,7 @@ module _ (s : Setting) (img : List ℕ) (v : View) (h : view s img ≡ given v) 
 
       module _ (t p : List ℕ) (et : t ≡ block img v.table) (ep : p ≡ block img v.pointers) where
         module _ (ks : List ℕ) (ek : ks ≡ giving (starts t) k 0 (places p)) where
-          pub disable-refused_8 : length ks ≡ 0 → job s img v (disable k) ≡ refused (numbered 8)
+          pub disable-refused_8 : length ks ≡ 0 → job s img v (disable k) ≡ refused NotInOrder
           unfolding job unless
           disable-refused_8 none = passed_by _ ∙ rw (in_order_by img v k t p ks et ep ek, none)
 
@@ -167,13 +168,13 @@ module _ (s : Setting) (img : List ℕ) (v : View) (h : view s img ≡ given v) 
             omega (arith, found, length-entries_from n (drop 0x20 t))
 
         module _ (name : List ℕ) where
-          pub rename-refused_9 : name_allowed name ≡ false → job s img v (rename k name) ≡ refused (numbered 9)
+          pub rename-refused_9 : name_allowed name ≡ false → job s img v (rename k name) ≡ refused NameNotAllowed
           unfolding job unless
           rename-refused_9 f = passed_by _ ∙ rw f
 
           module _ (allowed : name_allowed name ≡ true) where
             pub rename-refused_10 : name_free (rows n t) (slot_row (rows n t) k) name ≡ false
-                → job s img v (rename k name) ≡ refused (numbered 10)
+                → job s img v (rename k name) ≡ refused NameTaken
             unfolding job unless
             rename-refused_10 f = passed_by _ ∙ rw (allowed, ← same_rows, f)
 

@@ -8,7 +8,7 @@ use lib.Dec.{eqb}
 use lib.ListN.{length}
 use Rattle.rules.specs.Lists.{same}
 use Rattle.rules.specs.Bytes.{block}
-use Rattle.rules.specs.Answers.{given, numbered}
+use Rattle.rules.specs.Answers.{given}
 use Rattle.rules.specs.declared.Setting.{Setting}
 use Rattle.rules.specs.Table.{table_stands}
 use Rattle.rules.specs.Pointers.{pointers_stand}
@@ -24,6 +24,7 @@ use Rattle.views.proofs.Seen.{seen}
 use Rattle.blocks.proofs.JobSteps.{rewriting}
 use Rattle.drafts.specs.JobFor.{repaired}
 use Rattle.drafts.specs.Inner.Asked.{copies_equal}
+use Rattle.rules.specs.declared.Refusal.TheVariants.{NoPointers}
 
 -- of two things one
 module _ {A : Type 0} (x y : A) where
@@ -67,7 +68,7 @@ module _ (s : Setting) (img : List ℕ) (v : View) (h : view s img ≡ given v) 
   unfolding table_read
   table_copy = let k = seen s img v h in rw (k.same_spt0, k.same_spt1) k.table_copy
 
-  pointer_copy : copy_read (numbered 5) pointers_stand img v.cpb0 v.cpb1 ≡ given v.pointers
+  pointer_copy : copy_read NoPointers pointers_stand img v.cpb0 v.cpb1 ≡ given v.pointers
   unfolding pointers_read
   pointer_copy = let k = seen s img v h in rw (k.same_cpb0, k.same_cpb1) k.pointer_copy
 
@@ -79,7 +80,7 @@ module _ (s : Setting) (img : List ℕ) (v : View) (h : view s img ≡ given v) 
         k.same_spt0,
         k.same_spt1,
         agree_if_equal (no_table s img) (table_stands s (length img)) img s.spt0 s.spt1 v.table k.table_copy,
-        agree_if_equal (numbered 5) pointers_stand img v.cpb0 v.cpb1 v.pointers pointer_copy,
+        agree_if_equal NoPointers pointers_stand img v.cpb0 v.cpb1 v.pointers pointer_copy,
       )
 
   pub repair_by_copies : repair_steps s img v
@@ -88,5 +89,5 @@ module _ (s : Setting) (img : List ℕ) (v : View) (h : view s img ≡ given v) 
   repair_by_copies =
       rw (
         repair_if_different (no_table s img) (table_stands s (length img)) img v.spt0 v.spt1 v.table table_copy,
-        repair_if_different (numbered 5) pointers_stand img v.cpb0 v.cpb1 v.pointers pointer_copy,
+        repair_if_different NoPointers pointers_stand img v.cpb0 v.cpb1 v.pointers pointer_copy,
       )

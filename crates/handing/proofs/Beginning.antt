@@ -6,7 +6,7 @@ use Prim.Native.Nat.{ℕ}
 use lib.Dec.{eqb}
 use lib.ListN.{length}
 use borrow.Author.Tests.{eq-eqb, ne_eqb, eqb-true}
-use Rattle.rules.specs.Answers.{Answer, refused, given, unless}
+use Rattle.rules.specs.Answers.{Answer, refused, given, unless, number_of}
 use Rattle.rules.specs.declared.Setting.{Setting}
 use Rattle.rules.specs.Commands.{Command, start}
 use Rattle.rules.specs.declared.Step.{Step}
@@ -52,7 +52,7 @@ module _ (before : List ℕ) (whole : length before ≡ job_size) (len granule :
   holds_by : (a : Answer (List Step)) → Begins b len granule a → BegunAs r before after len granule a
   unfolding Begins BegunAs handed_over encoded_over
   holds_by (refused why) begun =
-      let left : handed r after ≡ handed why.number before = rw begun at e in
+      let left : handed r after ≡ handed (number_of why) before = rw begun at e in
       (ap (λ (h : Handed). h.number) left, ap (λ (h : Handed). h.buffer) left)
   holds_by (given ss) (begun, lists) =
       let left : handed r after ≡ handed 0 (encoded_over before b.job) = rw begun at e in

@@ -33,6 +33,7 @@ use Rattle.book_entries.specs.Tables.{new_name}
 use Rattle.harness.specs.Finished.{finished, left_finished, told, done_by, left_by, done_after, left_after, done_begun, left_begun}
 use Rattle.harness.specs.declared.Done.{Done}
 use Rattle.harness.specs.declared.Done.TheVariants.{Refused}
+use Rattle.rules.specs.declared.Refusal.TheVariants.{NoStepsLeft}
 
 -- ---- the name is of bytes
 
@@ -89,7 +90,7 @@ module _ (g : ℕ) (img : List ℕ) (j : Job) (s : Step) (l : List Step) (lists 
 
 pub all_steps : (g : ℕ) (img : List ℕ) (j : Job) (ss : List Step)
     → Lists j (length img) g ss
-    → admitted j img ≡ unless 11 (ltb 0 (length ss)) (given (under_way j img))
+    → admitted j img ≡ unless NoStepsLeft (ltb 0 (length ss)) (given (under_way j img))
     → (done_by (steps_left j) j img ≡ finished (given ss)) × (left_by (steps_left j) j img ≡ steps g ss img)
 unfolding steps_left finished done_by left_by steps unless
 all_steps g img j [] lists may = rw lists.steps (refl, refl)
@@ -112,7 +113,7 @@ module _ (s : Setting) (img : List ℕ) (c : Command) (b : StartResult) (bytes :
       by_answer (given ss) e h =
           unfold Begins done_begun left_begun done_after left_after left_finished in
           (let (answer, lists) = h in
-          let may : admitted b.job img ≡ unless 11 (ltb 0 (length ss)) (given (under_way b.job img)) =
+          let may : admitted b.job img ≡ unless NoStepsLeft (ltb 0 (length ss)) (given (under_way b.job img)) =
           unfold admitted under_way runs in
           rw (lists.steps, lists.same_len, lists.same_granule) (never_refused_12 s img c ss bytes names e []) in
           rw answer (all_steps s.granule img b.job ss lists may))

@@ -3,6 +3,7 @@ use Rattle.std.specs.Prelude.{Bool, cond, List, [], ℕ, ltb, length, get_or}
 use Rattle.rules.specs.Answers.{Answer, given, unless}
 use Rattle.rules.specs.Table.{Entry, name, no_entry}
 use Rattle.rules.specs.declared.SlotInfo.{SlotInfo}
+use Rattle.rules.specs.declared.Refusal.TheVariants.{NoSuchEntry}
 
 -- refusal 92: entry number not below the number of entries
 unfoldable pub entry_there : List Entry → ℕ → Bool
@@ -21,7 +22,7 @@ info_of es i = record {
 }
 
 unfoldable pub info_in : List Entry → ℕ → Answer SlotInfo
-info_in es i = unless 92 (entry_there es i) (given (info_of es i))
+info_in es i = unless NoSuchEntry (entry_there es i) (given (info_of es i))
 
 unfoldable pub name_in : List Entry → ℕ → List ℕ
 name_in es i = cond (entry_there es i) (name (entry_of es i)) []

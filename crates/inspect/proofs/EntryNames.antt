@@ -7,7 +7,7 @@ use native.Mathlib.Omega.{arith}
 use borrow.Author.Tests.{ltb-true, le-ltb}
 use lib.ListN.{length}
 use Rattle.rules.specs.Bytes.{little_endian, field, block}
-use Rattle.rules.specs.Answers.{Answer, refused, given, numbered, unless, ◌>>=◌}
+use Rattle.rules.specs.Answers.{Answer, refused, given, unless, ◌>>=◌}
 use Rattle.rules.specs.declared.Setting.{Setting}
 use Rattle.rules.specs.declared.Refusal.{Refusal}
 use Rattle.rules.specs.Table.{Entry, entries_from, entry_count, entries, name, no_entry, name_right}
@@ -22,6 +22,7 @@ use Rattle.rules.proofs.Table.Standing.{standing}
 use Rattle.views.proofs.Seen.{seen, table_read_stands}
 use Rattle.infos.specs.Entries.{entry_there, entry_of, info_of, info_in, name_in}
 use Rattle.inspect.specs.Entries.{entry_info, entry_name}
+use Rattle.rules.specs.declared.Refusal.TheVariants.{NoSuchEntry}
 
 -- no table has no names
 pub no_entry_name : (i : ℕ) → name_in (entries []) i ≡ []
@@ -48,7 +49,7 @@ module _ (es : List Entry) (i : ℕ) where
           rw t
           (ltb-true 0 (length (name (entry_of es i)))
           (and_true _ _ (all_at name_right es no_entry i right (ltb-true i (length es) t))).0)
-      by_there false t = absurd (refused_given (numbered 92) f (sym (rw t) ∙ e))
+      by_there false t = absurd (refused_given NoSuchEntry f (sym (rw t) ∙ e))
 
 -- ---- of a flash
 

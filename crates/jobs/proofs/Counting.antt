@@ -9,7 +9,7 @@ use lib.Dec.{eqb, ltb}
 use lib.ListN.{length, length-take}
 use borrow.Author.Tests.{lt-ltb}
 use Rattle.rules.specs.Lists.{all}
-use Rattle.rules.specs.Answers.{refused, given, unless, numbered}
+use Rattle.rules.specs.Answers.{refused, given, unless}
 use Rattle.rules.specs.Cuts.{Progress, inside, may_run}
 use Rattle.rules.specs.declared.Step.{Step}
 use Rattle.jobs.specs.Jobs.{steps_of, under_way, admitted, steps_done, returned, ran, steps_left, first_step, next_of, counted, counting}
@@ -17,8 +17,9 @@ use Rattle.jobs.specs.declared.Job.{Job}
 use Rattle.jobs.specs.declared.Did.TheVariants.{Steps, Refused}
 use Rattle.part_steps.specs.declared.Next.TheVariants.{Is, Finished}
 use Rattle.jobs.proofs.Running.{steps_advanced}
+use Rattle.rules.specs.declared.Refusal.TheVariants.{NoStepsLeft, OutsideImage}
 
-pub counts_none : (left n : ℕ) → left ≡ 0 → Refused (numbered 11) ≡ counted left n
+pub counts_none : (left n : ℕ) → left ≡ 0 → Refused NoStepsLeft ≡ counted left n
 unfolding counted
 counts_none left n e = rw e
 
@@ -31,7 +32,7 @@ counts_some (suc left) n h = refl
 as_run : (j : Job) (n left : ℕ) (p : Progress) (fits : Bool)
     → left ≡ length p.left
     → (ltb 0 left ≡ true → fits ≡ false → ⊥)
-    → returned j (counted left n) ≡ ran j n (unless 11 (ltb 0 (length p.left)) (unless 12 fits (given p)))
+    → returned j (counted left n) ≡ ran j n (unless NoStepsLeft (ltb 0 (length p.left)) (unless OutsideImage fits (given p)))
 unfolding unless ran steps_done
 as_run j n zero p fits e not_12 = rw (← e, ← counts_none zero n refl)
 as_run j n (suc left) p fits e not_12 =
@@ -39,12 +40,12 @@ as_run j n (suc left) p fits e not_12 =
     rw (← e, some, ← counts_some (suc left) n (λ z. omega arith)) (fitting fits (not_12 some))
   where
     fitting : (t : Bool) → (t ≡ false → ⊥)
-        → returned j (Steps (min n (suc left))) ≡ ran j n (unless 12 t (given p))
+        → returned j (Steps (min n (suc left))) ≡ ran j n (unless OutsideImage t (given p))
     fitting false not_so = absurd (not_so refl)
     fitting true not_so = rw (length-take, ← e)
 
 pub counted_as_run : (j : Job) (n : ℕ) (img : List ℕ)
-    → (admitted j img ≡ refused (numbered 12) → ⊥)
+    → (admitted j img ≡ refused OutsideImage → ⊥)
     → counting j n ≡ ran j n (admitted j img)
 unfolding counting steps_left admitted may_run under_way
 counted_as_run j n img not_12 =

@@ -10,7 +10,7 @@ use lib.Seq.{drop-drop}
 use borrow.Author.Tests.{lt-ltb, le-ltb}
 use Rattle.rules.proofs.Lists.Tests.{clash}
 use Rattle.rules.specs.Lists.{all}
-use Rattle.rules.specs.Answers.{Answer, refused, given, unless, numbered}
+use Rattle.rules.specs.Answers.{Answer, refused, given, unless}
 use Rattle.rules.specs.Steps.{steps}
 use Rattle.rules.specs.Cuts.{Progress, run, inside, may_run}
 use Rattle.rules.specs.declared.Refusal.{Refusal}
@@ -22,6 +22,7 @@ use Rattle.jobs.specs.declared.Did.{Did}
 use Rattle.jobs.specs.declared.Did.TheVariants.{Steps, Refused}
 use Rattle.part_steps.proofs.Splits.{drop_least}
 use Rattle.job_parts.proofs.ListedSteps.{listed_bound, length-listed, inside-listed}
+use Rattle.rules.specs.declared.Refusal.TheVariants.{NoStepsLeft, OutsideImage}
 
 -- a test that two things do not both hold
 pub one_fails : (a b : Bool) → not a || not b ≡ true → a && b ≡ false
@@ -67,7 +68,7 @@ module _ (j : Job) (arrays : Arrays j) where
       inside-listed j.plan j.first j.second j.places j.value arrays.first arrays.second len
       j.done
 
-  pub finished_11 : (img : List ℕ) → listed_length j.plan ≤ j.done → admitted j img ≡ refused (numbered 11)
+  pub finished_11 : (img : List ℕ) → listed_length j.plan ≤ j.done → admitted j img ≡ refused NoStepsLeft
   unfolding admitted may_run under_way unless
   finished_11 img h = rw (le-ltb 0 (length (steps_of j)) (rw length_steps (omega arith)))
 
@@ -77,7 +78,7 @@ module _ (j : Job) (arrays : Arrays j) where
 
     pub outside_12 : eqb (length img) j.plan.len && listed_inside (length img) j.plan j.places j.done
         ≡ false
-        → admitted j img ≡ refused (numbered 12)
+        → admitted j img ≡ refused OutsideImage
     unfolding admitted may_run under_way unless
     outside_12 t = rw (left, inside_steps (length img), t)
 
@@ -119,9 +120,9 @@ module _ (j : Job) (img : List ℕ) where
       (eqb (length (under_way j img).image) j.plan.len
       && all (inside j.plan.granule (length (under_way j img).image)) (under_way j img).left)
     where
-      tests : (t u : Bool) → P (unless 11 t (unless 12 u (given (under_way j img))))
-      tests false u = not_so (numbered 11)
-      tests true false = not_so (numbered 12)
+      tests : (t u : Bool) → P (unless NoStepsLeft t (unless OutsideImage u (given (under_way j img))))
+      tests false u = not_so NoStepsLeft
+      tests true false = not_so OutsideImage
       tests true true = so
 
   pub run_returned : (budget : ℕ) (did : Did) (after : List ℕ)

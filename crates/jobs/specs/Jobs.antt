@@ -1,6 +1,6 @@
 -- The list of steps that a job value denotes, and what a run of it answers and leaves. Assumes nothing.
 use Rattle.std.specs.Prelude.{◌≡◌, List, ℕ, zero, suc, ◌+◌, min, take, drop, length}
-use Rattle.rules.specs.Answers.{Answer, refused, given, numbered}
+use Rattle.rules.specs.Answers.{Answer, refused, given}
 use Rattle.rules.specs.Cuts.{Progress, run, may_run}
 use Rattle.rules.specs.declared.Step.{Step}
 pub use Rattle.part_steps.specs.Parts.{place_room, meant}
@@ -12,6 +12,7 @@ use Rattle.jobs.specs.declared.Job.{Job}
 use Rattle.jobs.specs.declared.Did.{Did}
 use Rattle.jobs.specs.declared.Did.TheVariants.{Steps, Refused}
 use Rattle.jobs.specs.declared.Ran.{Ran}
+use Rattle.rules.specs.declared.Refusal.TheVariants.{NoStepsLeft}
 
 -- the steps that a job denotes: those listed, less the ones done
 unfoldable pub steps_of : Job → List Step
@@ -89,7 +90,7 @@ next_of j = first_step (steps_of j)
 
 -- what is answered to n of them, of so many steps that remain: refused 11 where none do, else that number or all
 unfoldable pub counted : ℕ → ℕ → Did
-counted zero n = Refused (numbered 11)
+counted zero n = Refused NoStepsLeft
 counted (suc left) n = Steps (min n (suc left))
 
 -- what counting them returns

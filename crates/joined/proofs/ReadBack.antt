@@ -8,7 +8,7 @@ use borrow.Author.Tests.{le-leb}
 use lib.Dec.{leb}
 use lib.ListN.{length, drop, replicate, length-replicate}
 use lib.Seq.{take_at}
-use Rattle.rules.specs.Answers.{Answer, refused, given, unless, ◌>>=◌, numbered}
+use Rattle.rules.specs.Answers.{Answer, refused, given, unless, ◌>>=◌}
 use Rattle.rules.specs.declared.Setting.{Setting}
 use Rattle.rules.specs.Copies.{view, boot_order}
 use Rattle.rules.specs.Readers.{order_in, order_list, row_after, table_of, table_part}
@@ -19,6 +19,7 @@ use Rattle.order_lists.specs.Answers.{listed, count_of}
 use Rattle.order_lists.specs.declared.Listed.{Listed}
 use Rattle.order_lists.specs.declared.Listed.TheVariants.{Count, Refused}
 use Rattle.joined.specs.ReadOut.{ReadOut, ReadFrom, seen, Answers}
+use Rattle.rules.specs.declared.Refusal.TheVariants.{RowTooShort}
 
 -- a table, and an order that is given
 abbrev with_order : List ℕ → Answer (List ℕ) → Answer Reading
@@ -37,13 +38,13 @@ seen_by x (given o) t p l w = rw (l, p, w, take_at o (drop (length o) x.row) (le
 module _ (s : Setting) (img : List ℕ) where
   -- the reading is the table part and the order list's order, where the row has room
   reading_by : (room : ℕ)
-      → (order_list s img room ≡ refused (numbered 13) → ⊥)
+      → (order_list s img room ≡ refused RowTooShort → ⊥)
       → with_order (table_part s img) (order_list s img room) ≡ reading s img
   unfolding order_list order_in unless table_part table_of reading read_by ◌>>=◌
   reading_by room = by_view (view s img)
     where
       by_view : (a : Answer View)
-          → ((a >>= λ v. order_in (boot_order img v) room) ≡ refused (numbered 13) → ⊥)
+          → ((a >>= λ v. order_in (boot_order img v) room) ≡ refused RowTooShort → ⊥)
           → with_order (table_of img a) (a >>= λ v. order_in (boot_order img v) room)
           ≡ (a >>= λ v. given (read_by img v))
       by_view (refused why) fits = refl
@@ -58,7 +59,7 @@ module _ (s : Setting) (img : List ℕ) where
   -- what `table_read` and `order_list` tell of a flash is the book's reading of it, unless the row was too short
   pub seen_is_reading : (x : ReadOut)
       → ReadFrom s img x
-      → (listed x.answer ≡ refused (numbered 13) → ⊥)
+      → (listed x.answer ≡ refused RowTooShort → ⊥)
       → seen x ≡ reading s img
   unfolding count_of ◌>>=◌
   seen_is_reading x from fits =
@@ -78,14 +79,14 @@ module _ (s : Setting) (img : List ℕ) where
     readers_answer e x from fits =
         let o = order_there (length x.row) e fits in
         seen_is_reading x from
-        (λ h. refused_given (numbered 13) (length r.boot) (sym h ∙ from.answer ∙ rw o)) ∙ e
+        (λ h. refused_given RowTooShort (length r.boot) (sym h ∙ from.answer ∙ rw o)) ∙ e
 
     -- nothing is lost: where the readers tell a reading, that is the reading of the flash
     pub answers_read : Answers s img r → reading s img ≡ given r
     unfolding Answers listed seen ◌>>=◌
     answers_read told =
         let e = told x from (rw length-replicate (omega arith)) in
-        sym (seen_is_reading x from (λ h. refused_given (numbered 13) r (sym (short h) ∙ e))) ∙ e
+        sym (seen_is_reading x from (λ h. refused_given RowTooShort r (sym (short h) ∙ e))) ∙ e
       where
         as_listed : Answer ℕ → Listed
         as_listed (refused why) = Refused why
@@ -113,5 +114,5 @@ module _ (s : Setting) (img : List ℕ) where
           written = refl;
         }
 
-        short : listed x.answer ≡ refused (numbered 13) → seen x ≡ refused (numbered 13)
+        short : listed x.answer ≡ refused RowTooShort → seen x ≡ refused RowTooShort
         short h = rw h

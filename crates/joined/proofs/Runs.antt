@@ -19,6 +19,7 @@ use Rattle.jobs.specs.declared.Ran.{Ran}
 use Rattle.blocks.specs.Made.{Lists, no_job}
 use Rattle.blocks.proofs.JobSteps.{no_job_sound}
 use Rattle.joined.specs.Runs.{Run, AllRan, left_by_runs}
+use Rattle.rules.specs.declared.Refusal.TheVariants.{NoStepsLeft}
 
 abbrev pub budgets_of : List Run → List ℕ
 budgets_of rs = map (λ (r : Run). r.budget) rs
@@ -26,7 +27,7 @@ budgets_of rs = map (λ (r : Run). r.budget) rs
 -- whatever the budgets were, only refusal 11 is given
 abbrev OnlyRefused11 : ℕ → ℕ → Progress → Type 0
 OnlyRefused11 g len p = (ns : List ℕ)
-    → may_run g len (runs g ns p) ≡ unless 11 (ltb 0 (length (runs g ns p).left)) (given (runs g ns p))
+    → may_run g len (runs g ns p) ≡ unless NoStepsLeft (ltb 0 (length (runs g ns p).left)) (given (runs g ns p))
 
 -- a run keeps the plan of its job
 plan_kept : (j : Job) (n : ℕ) (a : Answer Progress) → (ran j n a).job.plan ≡ j.plan
@@ -41,7 +42,7 @@ run_of_none g (suc n) img = refl
 
 -- one run that is at most refused 11
 one_run : (j : Job) (img : List ℕ) (n : ℕ)
-    → admitted j img ≡ unless 11 (ltb 0 (length (under_way j img).left)) (given (under_way j img))
+    → admitted j img ≡ unless NoStepsLeft (ltb 0 (length (under_way j img).left)) (given (under_way j img))
     → progress_after j n img (admitted j img) ≡ run j.plan.granule n (under_way j img)
 unfolding progress_after under_way unless
 one_run j img n a = by_left (steps_of j) refl
@@ -65,7 +66,7 @@ module _ (g len : ℕ) where
   from_progress (r ∷ rs) j img p e same_len same_granule only ((returned, after), rest) =
       let plan : r.returned.job.plan ≡ j.plan =
       ap (λ (x : Ran). x.job.plan) returned ∙ plan_kept j r.budget (admitted j img) in
-      let may : admitted j img ≡ unless 11 (ltb 0 (length (under_way j img).left)) (given (under_way j img)) =
+      let may : admitted j img ≡ unless NoStepsLeft (ltb 0 (length (under_way j img).left)) (given (under_way j img)) =
       unfold admitted in rw (e, same_len, same_granule) (only []) in
       let went : under_way r.returned.job r.image ≡ run g r.budget p =
       after ∙ one_run j img r.budget may ∙ rw (e, same_granule) in

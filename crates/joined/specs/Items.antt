@@ -1,6 +1,6 @@
 -- An item carried out by the code, as its caller sees it: a start, and runs of the job that it returned. Assumes nothing.
 use Rattle.std.specs.Prelude.{◌≡◌, Bool, List, [], ◌∷◌, map, ℕ, length}
-use Rattle.rules.specs.Answers.{Answer, refused, given}
+use Rattle.rules.specs.Answers.{Answer, refused, given, number_of}
 use Rattle.rules.specs.declared.Setting.{Setting}
 use Rattle.rules.specs.declared.Refusal.{Refusal}
 use Rattle.rules.specs.Commands.{Command, start}
@@ -24,7 +24,7 @@ pub record Carried : Type 0 where
 -- a start was refused with the number of that refusal, and the job of no steps stands beside it; or it returned a job of
 -- these steps, for an image of this length and with this granule
 unfoldable pub BegunSo : StartResult → ℕ → ℕ → Answer (List Step) → Type 0
-BegunSo b len g (refused why) = (told : Refusal) × (b ≡ refusal told) × (told.number ≡ why.number)
+BegunSo b len g (refused why) = (told : Refusal) × (b ≡ refusal told) × (told.number ≡ number_of why)
 BegunSo b len g (given ss) = (b.answer ≡ Started) × Lists b.job len g ss
 
 -- it is as the contracts of the start and of `jobs::run` say, from this flash. Of a start nothing but `BegunSo` is used

@@ -6,7 +6,7 @@ use Prim.Native.Nat.{ℕ, zero, suc, ◌<◌}
 use native.Mathlib.Omega.{arith}
 use borrow.Author.Tests.{eq-eqb}
 use lib.ListN.{length}
-use Rattle.rules.specs.Answers.{Answer, refused, given, unless, ◌>>=◌, numbered}
+use Rattle.rules.specs.Answers.{Answer, refused, given, unless, ◌>>=◌, numbered, number_of}
 use Rattle.rules.specs.declared.Setting.{Setting}
 use Rattle.rules.specs.declared.Refusal.{Refusal}
 use Rattle.rules.specs.Commands.{start}
@@ -97,7 +97,7 @@ module _ (bytes img : List ℕ) (r : RunForC) where
           (a >>= λ p. given (record { job = j; progress = p }))
           → Went
       by_answer (refused why) e positive plain (number, left) =
-          run_refused why.number holds positive (e ∙ ap refused plain) number left
+          run_refused number_of why holds positive (e ∙ ap refused plain) number left
       by_answer (given p) e positive plain (number, (job, (image, (done, bytes)))) = run_went p e number job image done
 
 runs_by_value : (rs : List RunForC) (bytes img : List ℕ)
@@ -129,7 +129,7 @@ module _ (s : Setting) (img : List ℕ) (c : CarriedForC) where
   unfolding AllRan
   no_runs j e = rw e tt
 
-  item_refused : (n : ℕ) (why : Refusal) → 0 < n → c.number ≡ n → n ≡ why.number
+  item_refused : (n : ℕ) (why : Refusal) → 0 < n → c.number ≡ n → n ≡ number_of why
       → RunsAfter c.number c.begun img c.runs
       → Carry (refused why)
   unfolding BegunSo by_value begun_by_value RunsAfter
@@ -156,7 +156,7 @@ module _ (s : Setting) (img : List ℕ) (c : CarriedForC) where
           → NotZero a
           → BegunAs c.number c.buffer c.begun (length img) s.granule a
           → Carry a
-      by_answer (refused why) positive b = item_refused why.number why positive (unfold BegunAs in b.0) refl went
+      by_answer (refused why) positive b = item_refused number_of why why positive (unfold BegunAs in b.0) refl went
       by_answer (given ss) positive b = item_started ss b went
 
 pub items_by_value : (s : Setting) (cs : List CarriedForC) (img : List ℕ)

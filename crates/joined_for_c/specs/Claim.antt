@@ -8,6 +8,7 @@ use Rattle.rules.specs.Book.{Reading}
 use Rattle.reads_for_c.specs.Answered.{Written}
 use Rattle.joined.specs.Claim.{Demand3AsTold}
 use Rattle.joined_for_c.specs.Items.{CarriedForC, by_value}
+use Rattle.rules.specs.declared.Refusal.TheVariants.{NoSuchSlot}
 
 -- what the readers for C tell of a flash with this reading
 pub record AnswersForC (s : Setting) (img : List ℕ) (r : Reading) : Type 0 where
@@ -20,7 +21,7 @@ pub record AnswersForC (s : Setting) (img : List ℕ) (r : Reading) : Type 0 whe
   -- table
   pub slot_total : slot_count s img ≡ given (length (slots (entries r.table)))
   pub slot_known : (k : ℕ)
-      → slot_info s img k ≡ unless 7 (slot_there (entries r.table) k) (given (info (entries r.table) k))
+      → slot_info s img k ≡ unless NoSuchSlot (slot_there (entries r.table) k) (given (info (entries r.table) k))
   pub slot_named : (k : ℕ) → slot_name s img k ≡ name_in (entries r.table) k
 
 abbrev pub Demand3ForC : Setting → List ℕ → List CarriedForC → Type 0

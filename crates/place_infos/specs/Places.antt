@@ -6,6 +6,7 @@ use Rattle.rules.specs.Pointers.{place_count, places, erased_value, judged}
 use Rattle.place_infos.specs.declared.Held.{Held}
 use Rattle.place_infos.specs.declared.Holding.{Holding}
 use Rattle.place_infos.specs.declared.Holding.TheVariants.{Is, Refused}
+use Rattle.rules.specs.declared.Refusal.TheVariants.{NoSuchPlace}
 
 -- the value of a place of a pointer block
 abbrev pub value_of : List ℕ → ℕ → ℕ
@@ -17,7 +18,7 @@ held t p k = record { judgement = judged (starts t) (value_of p k); value = valu
 
 -- refusal 93: place number not below the number of places
 unfoldable pub held_in : List ℕ → List ℕ → ℕ → Answer Held
-held_in t p k = unless 93 (ltb k (place_count p)) (given (held t p k))
+held_in t p k = unless NoSuchPlace (ltb k (place_count p)) (given (held t p k))
 
 -- what the code answers
 unfoldable pub holding : Holding → Answer Held

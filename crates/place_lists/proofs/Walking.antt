@@ -3,7 +3,7 @@
 use mathlib.Core.Path.{◌≡◌, refl, sym, ap, ◌∙◌}
 use mathlib.Core.Bool.{Bool, true, false, cond, ◌||◌}
 use mathlib.Core.List.{List, [], ◌∷◌, ◌++◌, append-nil}
-use mathlib.Core.Option.{Option, none, some}
+use Rattle.std.specs.Prelude.{Option, None, Some}
 use Prim.Native.Nat.{ℕ, zero, suc, ◌+◌, ◌≤◌, ◌<◌}
 use native.Mathlib.Nat.{le_refl, add-zero, zero-add}
 use native.Mathlib.Omega.{arith}
@@ -33,8 +33,8 @@ use Rattle.blocks.proofs.Noting.{Below}
 
 add_head : (x : Option ℕ) (k : ℕ) (o : List ℕ) → (r : List ℕ) × (add_last x (k ∷ o) ≡ k ∷ r)
 unfolding add_last
-add_head none k o = (o, refl)
-add_head (some j) k o = by_cases (member j (k ∷ o)) (λ t. (o, rw t)) (λ t. (o ++ (j ∷ []), rw t))
+add_head None k o = (o, refl)
+add_head (Some j) k o = by_cases (member j (k ∷ o)) (λ t. (o, rw t)) (λ t. (o ++ (j ∷ []), rw t))
 
 order_head : (starts vs : List ℕ) (i k : ℕ) (o : List ℕ) → order starts (drop i vs) ≡ k ∷ o
     → (r : List ℕ) × (order starts vs ≡ k ∷ r)
@@ -46,7 +46,7 @@ order_head starts (v ∷ vs) (suc i) k o h =
     let (q, f) = add_head (slot_given (judged starts v)) k r in
     (q, ap (add_last (slot_given (judged starts v))) e ∙ f)
 
-not_live_gives_none : (j : Place) → is_live j ≡ false → slot_given j ≡ none
+not_live_gives_none : (j : Place) → is_live j ≡ false → slot_given j ≡ None
 unfolding is_live slot_given
 not_live_gives_none Erased t = refl
 not_live_gives_none Spent t = refl

@@ -2,7 +2,7 @@
 use Rattle.std.specs.Prelude.{Bool, true, false, ◌&&◌, List, [], ◌∷◌, ℕ, ◌+◌, ◌*◌, ◌-◌, eqb, take, drop, get_or, length}
 use Rattle.rules.specs.Lists.{same, all}
 use Rattle.rules.specs.Bytes.{block}
-use Rattle.rules.specs.Answers.{Answer, refused, given}
+use Rattle.rules.specs.Answers.{Answer, refused, given, number_of}
 use Rattle.rules.specs.Pointers.{place_offset, places}
 use Rattle.rules.specs.Readers.{order_list, table_part}
 use Rattle.rules.specs.Commands.{Command, start}
@@ -65,7 +65,7 @@ takes_place offset k ss =
     && first_programs (place_address offset quarry_cpb0 k) (drop 8 ss)
 
 unfoldable pub as_expected : ℕ → Answer (List Step) → Expected → Bool
-as_expected offset (refused why) (refusal n) = eqb why.number n
+as_expected offset (refused why) (refusal n) = eqb (number_of why) n
 as_expected offset (refused why) (step_count n) = false
 as_expected offset (refused why) (place k) = false
 as_expected offset (given ss) (refusal n) = false

@@ -5,7 +5,7 @@ use Prim.Native.Nat.{ℕ, ◌+◌, ◌≤◌}
 use native.Mathlib.Omega.{arith}
 use lib.ListN.{length}
 use lib.Seq.{sets-eq}
-use Rattle.rules.specs.Answers.{Answer, refused, given}
+use Rattle.rules.specs.Answers.{Answer, refused, given, number_of}
 use Rattle.rules.specs.declared.Refusal.{Refusal}
 use Rattle.rules.specs.Readers.{row_after}
 use Rattle.text.specs.Put.{Put}
@@ -25,7 +25,7 @@ put_front {row} {after} {text} p h =
 -- a refusal writes nothing
 pub written_refused : {a : Answer (List ℕ)} {why : Refusal} (row : List ℕ) (count : ℕ)
     → refused why ≡ a
-    → Written a why.number row row count count
+    → Written a number_of why row row count count
 unfolding row_after
 written_refused row count e = record {
   returned = number-refused e;

@@ -3,7 +3,7 @@ use mathlib.Core.Path.{◌≡◌}
 use mathlib.Core.List.{List}
 use Prim.Native.Nat.{ℕ}
 use lib.ListN.{length}
-use Rattle.rules.specs.Answers.{Answer, refused, given, ◌>>=◌}
+use Rattle.rules.specs.Answers.{Answer, refused, given, ◌>>=◌, number_of}
 use Rattle.rules.specs.declared.Refusal.{Refusal}
 use Rattle.rules.specs.Readers.{row_after}
 use Rattle.reads_for_c.specs.Inspected.{NamedEntry, name_of}
@@ -14,7 +14,7 @@ module _ {a : Answer NamedEntry} (row : List ℕ) where
   -- a refusal leaves it all as it was
   pub entry_kept : {why : Refusal} (count start size flags : ℕ)
       → refused why ≡ a
-      → EntryTold a why.number row row count count start start size size flags flags
+      → EntryTold a number_of why row row count count start start size size flags flags
   unfolding name_of row_after ◌>>=◌
   entry_kept count start size flags e = record {
     returned = number-refused e;

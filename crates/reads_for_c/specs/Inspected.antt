@@ -4,6 +4,7 @@ use Rattle.rules.specs.Answers.{Answer, given, unless, ◌>>=◌}
 use Rattle.rules.specs.declared.Setting.{Setting}
 use Rattle.rules.specs.declared.SlotInfo.{SlotInfo}
 use Rattle.inspect.specs.Entries.{entry_info, entry_name}
+use Rattle.rules.specs.declared.Refusal.TheVariants.{NameTooLong}
 
 -- what is known of an entry, with its name
 pub record NamedEntry : Type 0 where
@@ -13,7 +14,7 @@ pub record NamedEntry : Type 0 where
 -- an entry, or why there is none; 91 where the bytes lent for its name are too few
 unfoldable pub named_entry : Setting → List ℕ → ℕ → ℕ → Answer NamedEntry
 named_entry s img i room = entry_info s img i >>= λ f.
-    unless 91 (leb (length (entry_name s img i)) room) (given (record { name = entry_name s img i; info = f }))
+    unless NameTooLong (leb (length (entry_name s img i)) room) (given (record { name = entry_name s img i; info = f }))
 
 unfoldable pub name_of : Answer NamedEntry → Answer (List ℕ)
 name_of a = a >>= λ e. given e.name

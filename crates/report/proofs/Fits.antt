@@ -9,7 +9,7 @@ use lib.Dec.{leb, ltb, eqb}
 use lib.ListN.{length, take, drop, get_or, length-append, length-map, length-take}
 use Rattle.rules.specs.Lists.{any}
 use Rattle.rules.specs.Bytes.{up_to_zero, block}
-use Rattle.rules.specs.Answers.{Answer, refused, given}
+use Rattle.rules.specs.Answers.{Answer, refused, given, number_of}
 use Rattle.rules.specs.Table.{entry, entries_from, entries, name, no_entry, is_slot, slots, starts}
 use Rattle.rules.specs.Pointers.{places, judged, is_dead}
 use Rattle.rules.specs.Copies.{view, order_by, boot_order}
@@ -183,7 +183,7 @@ refusal_short n = omega (arith, length-append (decimal n) (0x0A ∷ []), decimal
 
 listing_by_short : (s : Setting) (img : List ℕ) (a : Answer View) → view s img ≡ a → length (listing_by s img a) ≤ 65536
 unfolding listing_by
-listing_by_short s img (refused why) e = refusal_short why.number
+listing_by_short s img (refused why) e = refusal_short (number_of why)
 listing_by_short s img (given v) e = parts_short s img v (located s img v e)
 
 -- for every setting and every image

@@ -1,7 +1,7 @@
 -- What a listing prints, to the byte: the boot order, then the dead places (`DeadLines`). Assumes nothing.
 use Rattle.std.specs.Prelude.{cond, List, [], ◌∷◌, ◌++◌, map, ℕ, leb, length}
 use Rattle.rules.specs.Bytes.{block}
-use Rattle.rules.specs.Answers.{Answer, refused, given}
+use Rattle.rules.specs.Answers.{Answer, refused, given, number_of}
 use Rattle.rules.specs.Numbers.{setting}
 use Rattle.rules.specs.Table.{starts}
 use Rattle.rules.specs.Pointers.{places}
@@ -61,7 +61,7 @@ parts s img v =
 
 -- "a refusal prints only `refused N`"
 unfoldable pub listing_by : Setting → List ℕ → Answer View → List ℕ
-listing_by s img (refused why) = refusal why.number
+listing_by s img (refused why) = refusal (number_of why)
 listing_by s img (given v) = parts s img v
 
 -- the listing of an image for any setting

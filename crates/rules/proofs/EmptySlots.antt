@@ -11,7 +11,7 @@ use borrow.Author.Tests.{not-true}
 use lib.ListN.{get_or, replicate}
 use Rattle.rules.specs.Lists.{all, any}
 use Rattle.rules.specs.Bytes.{block, erased_byte}
-use Rattle.rules.specs.Answers.{Answer, refused, given, unless, numbered}
+use Rattle.rules.specs.Answers.{Answer, refused, given, unless}
 use Rattle.rules.specs.declared.Setting.{Setting}
 use Rattle.rules.specs.Table.{entries, starts}
 use Rattle.rules.specs.Copies.{agree_by}
@@ -20,22 +20,23 @@ use Rattle.rules.specs.Commands.{slot_empty, enough_places, enable_steps, enable
 use Rattle.rules.specs.declared.Step.{Step}
 use Rattle.rules.specs.declared.View.{View}
 use Rattle.rules.proofs.Lists.Tests.{unless-given}
+use Rattle.rules.specs.declared.Refusal.TheVariants.{NoSuchSlot, SlotEmpty, NoPlaceLeft}
 
 -- ---- the refusal
 
 -- what passes refusal 14
 pub not_empty_if_given : {A : Type 0} (img : List ℕ) (start : ℕ) (rest : Answer A) (a : A)
-    → unless 14 (not (slot_empty img start)) rest ≡ given a
+    → unless SlotEmpty (not (slot_empty img start)) rest ≡ given a
     → (slot_empty img start ≡ false) × (rest ≡ given a)
 not_empty_if_given img start rest a e =
-    let (sent, e15) = unless-given 14 (not (slot_empty img start)) rest a e in
+    let (sent, e15) = unless-given SlotEmpty (not (slot_empty img start)) rest a e in
     (not-true (slot_empty img start) sent, e15)
 
 module _ (s : Setting) (img : List ℕ) (v : View) (k : ℕ) (agree : agree_by s img v ≡ true) where
   abbrev t : List ℕ
   t = block img v.table
 
-  pub not_there_refused : slot_there (entries t) k ≡ false → job s img v (enable k) ≡ refused (numbered 7)
+  pub not_there_refused : slot_there (entries t) k ≡ false → job s img v (enable k) ≡ refused NoSuchSlot
   unfolding job unless
   not_there_refused f = rw (agree, f)
 
@@ -43,12 +44,12 @@ module _ (s : Setting) (img : List ℕ) (v : View) (k : ℕ) (agree : agree_by s
   steps_listed = enable_steps v.cpb0 v.cpb1 (starts t) (block img v.pointers) k
 
   abbrev asked_15 : Answer (List Step)
-  asked_15 = unless 15 (enough_places (starts t) (block img v.pointers) k) (given steps_listed)
+  asked_15 = unless NoPlaceLeft (enough_places (starts t) (block img v.pointers) k) (given steps_listed)
 
   module _ (there : slot_there (entries t) k ≡ true) where
-    pub empty_refused : slot_empty img (get_or (starts t) k 0) ≡ true → job s img v (enable k) ≡ refused (numbered 14)
+    pub empty_refused : slot_empty img (get_or (starts t) k 0) ≡ true → job s img v (enable k) ≡ refused SlotEmpty
     unfolding job unless
-    empty_refused e = rw (agree, there) (ap (λ b. unless 14 (not b) asked_15) e)
+    empty_refused e = rw (agree, there) (ap (λ b. unless SlotEmpty (not b) asked_15) e)
 
     pub sent_started : slot_empty img (get_or (starts t) k 0) ≡ false
         → enough_places (starts t) (block img v.pointers) k ≡ true
@@ -56,15 +57,15 @@ module _ (s : Setting) (img : List ℕ) (v : View) (k : ℕ) (agree : agree_by s
     unfolding job unless
     sent_started f enough =
         rw (agree, there)
-        (ap (λ b. unless 14 (not b) asked_15) f ∙ ap (λ b. unless 15 b (given steps_listed)) enough)
+        (ap (λ b. unless SlotEmpty (not b) asked_15) f ∙ ap (λ b. unless NoPlaceLeft b (given steps_listed)) enough)
 
     -- refusal 15, the last of enable's checks; `Pointers.NoRoom` says where it is due
     pub full_refused : slot_empty img (get_or (starts t) k 0) ≡ false
         → enough_places (starts t) (block img v.pointers) k ≡ false
-        → job s img v (enable k) ≡ refused (numbered 15)
+        → job s img v (enable k) ≡ refused NoPlaceLeft
     unfolding job unless
     full_refused f full =
-        rw (agree, there) (ap (λ b. unless 14 (not b) asked_15) f ∙ ap (λ b. unless 15 b (given steps_listed)) full)
+        rw (agree, there) (ap (λ b. unless SlotEmpty (not b) asked_15) f ∙ ap (λ b. unless NoPlaceLeft b (given steps_listed)) full)
 
 -- ---- which slots are empty
 

@@ -12,6 +12,7 @@ use Rattle.rules.specs.Readers.{slot_row, slot_entry, slot_there}
 use Rattle.rules.specs.Steps.{programs, rewrite, rewrite_pair}
 use Rattle.rules.specs.declared.View.{View}
 use Rattle.rules.specs.declared.Step.{Step}
+use Rattle.rules.specs.declared.Refusal.TheVariants.{CopiesDiffer, NoSuchSlot, NotInOrder, NameNotAllowed, NameTaken, SlotEmpty, NoPlaceLeft, LengthWrong, NoRowLeft, NoStart, IsInOrder}
 
 -- ---- a pointer block with another order
 
@@ -241,34 +242,34 @@ pub data Command : Type 0 where
 -- the refusals after 5, in their order, or the listed steps
 unfoldable pub job : Setting → List ℕ → View → Command → Answer (List Step)
 job s img v (enable k) =
-    unless 6 (agree_by s img v)
-    (unless 7 (slot_there (entries (block img v.table)) k)
-    (unless 14 (not (slot_empty img (get_or (starts (block img v.table)) k 0)))
-    (unless 15 (enough_places (starts (block img v.table)) (block img v.pointers) k)
+    unless CopiesDiffer (agree_by s img v)
+    (unless NoSuchSlot (slot_there (entries (block img v.table)) k)
+    (unless SlotEmpty (not (slot_empty img (get_or (starts (block img v.table)) k 0)))
+    (unless NoPlaceLeft (enough_places (starts (block img v.table)) (block img v.pointers) k)
     (given (enable_steps v.cpb0 v.cpb1 (starts (block img v.table)) (block img v.pointers) k)))))
 job s img v (disable k) =
-    unless 6 (agree_by s img v)
-    (unless 7 (slot_there (entries (block img v.table)) k)
-    (unless 8 (member k (boot_order img v))
+    unless CopiesDiffer (agree_by s img v)
+    (unless NoSuchSlot (slot_there (entries (block img v.table)) k)
+    (unless NotInOrder (member k (boot_order img v))
     (given (disable_steps v.cpb0 v.cpb1 (starts (block img v.table)) (block img v.pointers) k))))
 job s img v (rename k n) =
-    unless 6 (agree_by s img v)
-    (unless 7 (slot_there (entries (block img v.table)) k)
-    (unless 9 (name_allowed n)
-    (unless 10 (name_free (entries (block img v.table)) (slot_row (entries (block img v.table)) k) n)
+    unless CopiesDiffer (agree_by s img v)
+    (unless NoSuchSlot (slot_there (entries (block img v.table)) k)
+    (unless NameNotAllowed (name_allowed n)
+    (unless NameTaken (name_free (entries (block img v.table)) (slot_row (entries (block img v.table)) k) n)
     (given (rename_steps v.spt0 v.spt1 (block img v.table) k n)))))
 job s img v (create n size) =
-    unless 6 (agree_by s img v)
-    (unless 9 (name_allowed n)
-    (unless 10 (not (any (has_name n) (entries (block img v.table))))
-    (unless 40 (size_right size)
-    (unless 41 (ltb (entry_count (block img v.table)) 127)
-    (unless 42 (has_start 0 (length img) (entries (block img v.table)) (places (block img v.pointers)) size)
+    unless CopiesDiffer (agree_by s img v)
+    (unless NameNotAllowed (name_allowed n)
+    (unless NameTaken (not (any (has_name n) (entries (block img v.table))))
+    (unless LengthWrong (size_right size)
+    (unless NoRowLeft (ltb (entry_count (block img v.table)) 127)
+    (unless NoStart (has_start 0 (length img) (entries (block img v.table)) (places (block img v.pointers)) size)
     (given (create_steps v.spt0 v.spt1 (block img v.table) n (created_start img v size) size)))))))
 job s img v (delete k) =
-    unless 6 (agree_by s img v)
-    (unless 7 (slot_there (entries (block img v.table)) k)
-    (unless 43 (not (member k (boot_order img v)))
+    unless CopiesDiffer (agree_by s img v)
+    (unless NoSuchSlot (slot_there (entries (block img v.table)) k)
+    (unless IsInOrder (not (member k (boot_order img v)))
     (given (delete_steps v.spt0 v.spt1 (block img v.table) k))))
 job s img v repair = given (repair_steps s img v)
 

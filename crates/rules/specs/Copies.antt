@@ -3,27 +3,32 @@
 use Rattle.std.specs.Prelude.{Bool, false, cond, ◌&&◌, ◌||◌, List, [], ℕ, eqb, length}
 use Rattle.rules.specs.Lists.{same}
 use Rattle.rules.specs.Bytes.{block, block_size}
-use Rattle.rules.specs.Answers.{Answer, refused, given, numbered, unless, ◌>>=◌}
+use Rattle.rules.specs.Answers.{Answer, refused, given, unless, ◌>>=◌}
 use Rattle.rules.specs.Numbers.{length_right, granule_right, addresses_right}
 use Rattle.rules.specs.declared.Setting.{Setting}
 use Rattle.rules.specs.declared.Refusal.{Refusal}
 use Rattle.rules.specs.Table.{magic_right, table_stands, fault, starts, cpb0_of, cpb1_of}
 use Rattle.rules.specs.Pointers.{pointers_stand, places, order}
 use Rattle.rules.specs.declared.View.{View}
+use Rattle.rules.specs.declared.Refusal.TheVariants.{BadLength, BadGranule, BadAddresses, NoPointers, NoMagic, NoTable}
+use Rattle.rules.specs.declared.TableFaults.{TableFaults}
 
 -- the address of the first copy if that stands, else of the second, else that refusal
 unfoldable pub copy_read : Refusal → (List ℕ → Bool) → List ℕ → ℕ → ℕ → Answer ℕ
 copy_read why stands img a0 a1 =
     cond (stands (block img a0)) (given a0) (cond (stands (block img a1)) (given a1) (refused why))
 
--- "50 (neither magic right) and 51 (otherwise)", with the faults of SPT0 and SPT1
+-- the faults of SPT0 and of SPT1
+unfoldable pub both_faults : Setting → List ℕ → TableFaults
+both_faults s img =
+    record { fault0 = fault s (length img) (block img s.spt0); fault1 = fault s (length img) (block img s.spt1) }
+
+-- "50 (neither magic right) and 51 (otherwise)", with the faults of the two copies
 unfoldable pub no_table : Setting → List ℕ → Refusal
 no_table s img =
-    record {
-      number = cond (magic_right (block img s.spt0) || magic_right (block img s.spt1)) 51 50;
-      fault0 = fault s (length img) (block img s.spt0);
-      fault1 = fault s (length img) (block img s.spt1);
-    }
+    cond (magic_right (block img s.spt0) || magic_right (block img s.spt1))
+    (NoTable (both_faults s img))
+    (NoMagic (both_faults s img))
 
 -- "SPT0 if it stands, else SPT1"
 unfoldable pub table_read : Setting → List ℕ → Answer ℕ
@@ -31,7 +36,7 @@ table_read s img = copy_read (no_table s img) (table_stands s (length img)) img 
 
 -- "From that table CPB0 if it stands, else CPB1"
 unfoldable pub pointers_read : List ℕ → List ℕ → Answer ℕ
-pointers_read img t = copy_read (numbered 5) pointers_stand img (cpb0_of t) (cpb1_of t)
+pointers_read img t = copy_read NoPointers pointers_stand img (cpb0_of t) (cpb1_of t)
 
 -- where things are, by the table at an address
 unfoldable pub view_through : Setting → List ℕ → ℕ → Answer View
@@ -48,9 +53,9 @@ view_through s img at =
 -- refusals 1, 2, 3, 50 or 51, and 5 in their order, or where things are and which copies are read
 unfoldable pub view : Setting → List ℕ → Answer View
 view s img =
-    unless 1 (length_right (length img))
-    (unless 2 (granule_right s.granule)
-    (unless 3 (addresses_right s (length img))
+    unless BadLength (length_right (length img))
+    (unless BadGranule (granule_right s.granule)
+    (unless BadAddresses (addresses_right s (length img))
     (table_read s img >>= view_through s img)))
 
 -- the boot order by a table and a pointer block

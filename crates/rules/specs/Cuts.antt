@@ -6,6 +6,7 @@ use Rattle.rules.specs.Answers.{Answer, given, unless}
 use Rattle.rules.specs.Steps.{steps}
 use Rattle.rules.specs.declared.Step.{Step}
 use Rattle.rules.specs.declared.Step.TheVariants.{Program, Erase}
+use Rattle.rules.specs.declared.Refusal.TheVariants.{NoStepsLeft, OutsideImage}
 
 -- ---- one run
 
@@ -26,8 +27,8 @@ inside g len (Erase a) = leb (a + g) len
 -- refusals 11 and 12, or leave to run, for a job started on an image of some length
 unfoldable pub may_run : ℕ → ℕ → Progress → Answer Progress
 may_run g len p =
-    unless 11 (ltb 0 (length p.left))
-    (unless 12 (eqb (length p.image) len && all (inside g (length p.image)) p.left)
+    unless NoStepsLeft (ltb 0 (length p.left))
+    (unless OutsideImage (eqb (length p.image) len && all (inside g (length p.image)) p.left)
     (given p))
 
 -- ---- the runs of an item

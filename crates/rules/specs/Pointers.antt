@@ -1,7 +1,7 @@
 -- "Pointer block, 4,096 bytes": when a copy stands, what its places hold, the boot order.
 -- The layout is that of source document 002. Assumes nothing.
 use Rattle.std.specs.Prelude.{Bool, true, false, cond, ◌&&◌, List, [], ◌∷◌, ◌++◌, ℕ, zero, suc, ◌-◌, ◌/◌, eqb, leb, take, drop}
-use Rattle.std.proofs.Math.Option.{Option, none, some}
+use Rattle.std.specs.Prelude.{Option, None, Some}
 use Rattle.rules.specs.Lists.{member}
 use Rattle.rules.specs.Bytes.{little_endian, field, block_size, multiple}
 use Rattle.rules.specs.declared.Place.{Place}
@@ -62,18 +62,18 @@ unfoldable pub top_byte_erased : ℕ → Bool
 top_byte_erased v = eqb (v / 0x100000000000000) 0xFF
 
 unfoldable pub one_more : Option ℕ → Option ℕ
-one_more none = none
-one_more (some k) = some (suc k)
+one_more None = None
+one_more (Some k) = Some (suc k)
 
 -- the slot that starts at an address, of slots with these starts
 unfoldable pub slot_at : List ℕ → ℕ → Option ℕ
-slot_at [] v = none
-slot_at (a ∷ starts) v = cond (eqb a v) (some 0) (one_more (slot_at starts v))
+slot_at [] v = None
+slot_at (a ∷ starts) v = cond (eqb a v) (Some 0) (one_more (slot_at starts v))
 
 -- "live with its slot" where a slot starts at the value, else something other
 unfoldable pub live_or : Place → Option ℕ → Place
-live_or other none = other
-live_or other (some k) = Live (record { 0 = k })
+live_or other None = other
+live_or other (Some k) = Live (record { 0 = k })
 
 -- what a place with this value holds, by the slots' starts: "erased, spent (0), live with its slot, part-written (top
 -- byte 0xFF, not erased) or stray with its value". In document 01's words: "A place is erased if its 8 bytes are 0xFF.
@@ -100,11 +100,11 @@ is_dead (Stray v) = true
 
 -- the slot that a place gives
 unfoldable pub slot_given : Place → Option ℕ
-slot_given Erased = none
-slot_given Spent = none
-slot_given (Live s) = some s.0
-slot_given PartWritten = none
-slot_given (Stray v) = none
+slot_given Erased = None
+slot_given Spent = None
+slot_given (Live s) = Some s.0
+slot_given PartWritten = None
+slot_given (Stray v) = None
 
 -- the place gives this slot
 unfoldable pub gives : ℕ → Place → Bool
@@ -118,8 +118,8 @@ gives k (Stray v) = false
 
 -- "a slot met before is skipped"
 unfoldable pub add_last : Option ℕ → List ℕ → List ℕ
-add_last none o = o
-add_last (some k) o = cond (member k o) o (o ++ (k ∷ []))
+add_last None o = o
+add_last (Some k) o = cond (member k o) o (o ++ (k ∷ []))
 
 -- from the last place down to place 0: each place comes after those above it
 unfoldable pub order : List ℕ → List ℕ → List ℕ

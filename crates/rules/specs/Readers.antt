@@ -6,16 +6,17 @@ use Rattle.rules.specs.Answers.{Answer, refused, given, unless, ◌>>=◌}
 use Rattle.rules.specs.Numbers.{length_right, granule_right, addresses_right}
 use Rattle.rules.specs.declared.Setting.{Setting}
 use Rattle.rules.specs.declared.TableFaults.{TableFaults}
-use Rattle.rules.specs.Table.{Entry, entries, fault, name, slots, is_slot, no_entry}
-use Rattle.rules.specs.Copies.{view, boot_order}
+use Rattle.rules.specs.Table.{Entry, entries, name, slots, is_slot, no_entry}
+use Rattle.rules.specs.Copies.{both_faults, view, boot_order}
 use Rattle.rules.specs.declared.View.{View}
 use Rattle.rules.specs.declared.SlotInfo.{SlotInfo}
+use Rattle.rules.specs.declared.Refusal.TheVariants.{BadLength, BadGranule, BadAddresses, NoSuchSlot, RowTooShort}
 
 -- ---- the order list
 
 -- refusal 13: the lent row is shorter than the order
 unfoldable pub order_in : List ℕ → ℕ → Answer (List ℕ)
-order_in o room = unless 13 (leb (length o) room) (given o)
+order_in o room = unless RowTooShort (leb (length o) room) (given o)
 
 -- the refusals of a view and 13, or the boot order
 unfoldable pub order_list : Setting → List ℕ → ℕ → Answer (List ℕ)
@@ -41,13 +42,10 @@ table_part s img = table_of img (view s img)
 -- refusals 1 to 3, or the first broken rule of SPT0 and of SPT1
 unfoldable pub table_faults : Setting → List ℕ → Answer TableFaults
 table_faults s img =
-    unless 1 (length_right (length img))
-    (unless 2 (granule_right s.granule)
-    (unless 3 (addresses_right s (length img))
-    (given (record {
-      fault0 = fault s (length img) (block img s.spt0);
-      fault1 = fault s (length img) (block img s.spt1);
-    }))))
+    unless BadLength (length_right (length img))
+    (unless BadGranule (granule_right s.granule)
+    (unless BadAddresses (addresses_right s (length img))
+    (given (both_faults s img))))
 
 -- ---- the slots
 
@@ -80,7 +78,7 @@ slot_there es k = ltb k (length (slots es))
 -- the refusals of a view and 7, or what is known of a slot beside its name
 unfoldable pub slot_info : Setting → List ℕ → ℕ → Answer SlotInfo
 slot_info s img k = view s img >>= λ v.
-    (let es = entries (block img v.table) in unless 7 (slot_there es k) (given (info es k)))
+    (let es = entries (block img v.table) in unless NoSuchSlot (slot_there es k) (given (info es k)))
 
 unfoldable pub name_in : List Entry → ℕ → List ℕ
 name_in es k = cond (slot_there es k) (name (slot_entry es k)) []

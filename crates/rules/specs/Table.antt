@@ -1,12 +1,14 @@
 -- "Sub-partition table, 4,096 bytes": its entries, the eleven rules of a copy that stands, the first of them that a copy
 -- breaks, the application slots.
 -- The layout is that of source document 000, section 3.2. Assumes nothing.
-use Rattle.std.specs.Prelude.{Bool, true, false, not, ◌&&◌, ◌||◌, List, [], ◌∷◌, map, ℕ, zero, suc, ◌+◌, eqb, leb, ltb, take, drop, length}
+use Rattle.std.specs.Prelude.{Bool, true, false, not, ◌&&◌, ◌||◌, List, [], ◌∷◌, map, ℕ, zero, suc, ◌+◌, eqb, leb, ltb, take, drop, length, Option}
 use Rattle.rules.specs.Lists.{same, all, any, pairwise, first_failing, first_clash, keep, first}
 use Rattle.rules.specs.Bytes.{field, up_to_zero, multiple, block_size}
 use Rattle.rules.specs.Answers.{no_entry_number, broken, no_fault}
 use Rattle.rules.specs.declared.Setting.{Setting}
+use Rattle.rules.specs.declared.TableRule.{TableRule}
 use Rattle.rules.specs.declared.Fault.{Fault}
+use Rattle.rules.specs.declared.TableRule.TheVariants.{HeaderRight, CountRight, NameRight, NamesDiffer, RangeAligned, RangeInside, RangesApart, SixNamed, BootInfoAtZero, TablesAsTold, BlocksOnGranules}
 
 -- ---- entries
 
@@ -189,31 +191,31 @@ table_as_told s e = if_named spt0_name (starts_at s.spt0) e && if_named spt1_nam
 unfoldable pub block_on_granules : Setting → Entry → Bool
 block_on_granules s e = all (λ n. if_named n (on_granules s.granule) e) block_names
 
--- rule n broken at an entry, unless it is kept: then what the rules after it say
-unfoldable pub broken_unless : ℕ → ℕ → Bool → Fault → Fault
-broken_unless n e true later = later
-broken_unless n e false later = broken n e
+-- a rule broken at an entry, unless it is kept: then what the rules after it say
+unfoldable pub broken_unless : TableRule → ℕ → Bool → Option Fault → Option Fault
+broken_unless rule e true later = later
+broken_unless rule e false later = broken rule e
 
 -- rules 3 to 11, over the counted entries: "the lowest entry number that breaks it", of names and overlaps "the lowest
 -- entry that clashes with an earlier one"
-unfoldable pub entries_fault : Setting → ℕ → List Entry → Fault
+unfoldable pub entries_fault : Setting → ℕ → List Entry → Option Fault
 entries_fault s len es =
-    broken_unless 3 (first_failing name_right es) (all name_right es)
-    (broken_unless 4 (first_clash names_differ [] es) (pairwise names_differ es)
-    (broken_unless 5 (first_failing range_aligned es) (all range_aligned es)
-    (broken_unless 6 (first_failing (range_inside len) es) (all (range_inside len) es)
-    (broken_unless 7 (first_clash ranges_apart [] es) (pairwise ranges_apart es)
-    (broken_unless 8 no_entry_number (six_named es)
-    (broken_unless 9 (first_failing boot_info_right es) (boot_info_at_0 es)
-    (broken_unless 10 (first_failing (table_as_told s) es) (tables_as_told s es)
-    (broken_unless 11 (first_failing (block_on_granules s) es) (blocks_on_granules s es)
+    broken_unless NameRight (first_failing name_right es) (all name_right es)
+    (broken_unless NamesDiffer (first_clash names_differ [] es) (pairwise names_differ es)
+    (broken_unless RangeAligned (first_failing range_aligned es) (all range_aligned es)
+    (broken_unless RangeInside (first_failing (range_inside len) es) (all (range_inside len) es)
+    (broken_unless RangesApart (first_clash ranges_apart [] es) (pairwise ranges_apart es)
+    (broken_unless SixNamed no_entry_number (six_named es)
+    (broken_unless BootInfoAtZero (first_failing boot_info_right es) (boot_info_at_0 es)
+    (broken_unless TablesAsTold (first_failing (table_as_told s) es) (tables_as_told s es)
+    (broken_unless BlocksOnGranules (first_failing (block_on_granules s) es) (blocks_on_granules s es)
     no_fault))))))))
 
 -- "the first broken rule" of a table copy; `no_fault` exactly if it stands
-unfoldable pub fault : Setting → ℕ → List ℕ → Fault
+unfoldable pub fault : Setting → ℕ → List ℕ → Option Fault
 fault s len t =
-    broken_unless 1 no_entry_number (header_right t)
-    (broken_unless 2 no_entry_number (count_right t)
+    broken_unless HeaderRight no_entry_number (header_right t)
+    (broken_unless CountRight no_entry_number (count_right t)
     (entries_fault s len (entries t)))
 
 -- ---- application slots

@@ -2,7 +2,7 @@
 use mathlib.Core.Path.{◌≡◌, ◌∙◌}
 use mathlib.Core.List.{List}
 use Prim.Native.Nat.{ℕ}
-use Rattle.rules.specs.Answers.{refused, given, ◌>>=◌, numbered}
+use Rattle.rules.specs.Answers.{refused, given, ◌>>=◌, numbered, number_of}
 use Rattle.rules.specs.declared.Refusal.{Refusal}
 use Rattle.jobs.specs.Jobs.{counting}
 use Rattle.jobs.specs.declared.Did.{Did}
@@ -31,7 +31,7 @@ module _ (bs bs' : List ℕ) (n told : ℕ) (held : given (job_from bs) ≡ deco
   unfolding ◌>>=◌
   job_counted = h.holds ∙ rw (← held)
 
-  pub count_refused : {why : Refusal} → did ≡ Refused why → Counted n why.number bs bs' told told
+  pub count_refused : {why : Refusal} → did ≡ Refused why → Counted n number_of why bs bs' told told
   unfolding answered bytes_counted bytes_after number kept
   count_refused e = record {
     returned = rw (counts_did, e);

@@ -2,7 +2,7 @@
 use mathlib.Core.Path.{◌≡◌, refl, sym, ap, ◌∙◌}
 use mathlib.Core.List.{List}
 use Prim.Native.Nat.{ℕ}
-use Rattle.rules.specs.Answers.{Answer, refused, given, ◌>>=◌, numbered}
+use Rattle.rules.specs.Answers.{Answer, refused, given, ◌>>=◌, numbered, number_of}
 use Rattle.rules.specs.declared.Refusal.{Refusal}
 use Rattle.rules.specs.Cuts.{Progress, run}
 use Rattle.jobs.specs.Jobs.{under_way, admitted, steps_done, advanced, ran, progress_after}
@@ -44,7 +44,7 @@ module _ (bs img bs' img' : List ℕ) (budget done : ℕ) (held : given (job_fro
   pub run_refused : (why : Refusal) (r : Did)
       → r ≡ Refused why
       → RanHere budget bs img bs' img' r
-      → RanAs why.number budget (lent bs img done) (lent bs' img' done) (running bs img)
+      → RanAs number_of why budget (lent bs img done) (lent bs' img' done) (running bs img)
   unfolding running RanAs ◌>>=◌ bytes_after
   run_refused why r e h =
       let (a, same) = refused_by (job_from bs) budget img img' why (admitted (job_from bs) img) (sym e ∙ h.did)

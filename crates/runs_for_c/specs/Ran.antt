@@ -1,6 +1,6 @@
 -- What a run leaves in all that is lent to it. Assumes nothing.
 use Rattle.std.specs.Prelude.{◌≡◌, List, ℕ}
-use Rattle.rules.specs.Answers.{Answer, refused, given, ◌>>=◌}
+use Rattle.rules.specs.Answers.{Answer, refused, given, ◌>>=◌, number_of}
 use Rattle.rules.specs.Cuts.{Progress, run}
 use Rattle.jobs.specs.Jobs.{admitted, steps_done, advanced}
 use Rattle.jobs.specs.declared.Job.{Job}
@@ -29,7 +29,7 @@ running bytes img = decoded bytes >>= λ j. admitted j img >>= λ p. given (reco
 -- a refusal leaves all as it was; else the steps are done in the image, counted, and left out of the job, of whose bytes
 -- only the number of steps done changes
 unfoldable pub RanAs : ℕ → ℕ → Lent → Lent → Answer Running → Type 0
-RanAs r budget before after (refused why) = (r ≡ why.number) × (after ≡ before)
+RanAs r budget before after (refused why) = (r ≡ number_of why) × (after ≡ before)
 RanAs r budget before after (given w) =
     (r ≡ 0)
     × ((decoded after.job ≡ given (advanced w.job (steps_done budget w.progress)))

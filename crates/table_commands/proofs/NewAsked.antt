@@ -10,7 +10,7 @@ use lib.ListN.{length, drop, drop_of_length-le}
 use lib.Seq.{take_all}
 use Rattle.rules.specs.Lists.{any}
 use Rattle.rules.specs.Bytes.{block, multiple}
-use Rattle.rules.specs.Answers.{Answer, refused, given, numbered, unless, ◌>>=◌}
+use Rattle.rules.specs.Answers.{Answer, refused, given, unless, ◌>>=◌}
 use Rattle.rules.specs.declared.Setting.{Setting}
 use Rattle.rules.specs.declared.Refusal.{Refusal}
 use Rattle.rules.specs.Table.{entry_count, entries, rows, has_name, starts}
@@ -36,6 +36,7 @@ use Rattle.drafts.proofs.EqualCopies.{pairs_agree_if_equal}
 use Rattle.drafts.proofs.Asking.{in_order_by, refused_by, passed_by}
 use Rattle.drafts.proofs.Drafting.{pair_means, drafts_job}
 use Rattle.views.proofs.Opening.{located}
+use Rattle.rules.specs.declared.Refusal.TheVariants.{CopiesDiffer, NameNotAllowed, NameTaken, LengthWrong, NoRowLeft, NoStart, IsInOrder}
 
 -- ---- the entries of a standing table
 
@@ -73,14 +74,14 @@ module _ (img : List ℕ) (v : View) (n : List ℕ) (size : ℕ) where
       → not (any (has_name n) (entries (block img v.table))) ≡ c
       → size_right size ≡ d
       → ltb (entry_count (block img v.table)) 127 ≡ e
-      → new_asked img v n size ≡ unless 6 a (unless 9 b (unless 10 c (unless 40 d (unless 41 e (given tt)))))
+      → new_asked img v n size ≡ unless CopiesDiffer a (unless NameNotAllowed b (unless NameTaken c (unless LengthWrong d (unless NoRowLeft e (given tt)))))
   unfolding new_asked
   new_asked_by ea eb ec ed ee = rw (ea, eb, ec, ed, ee)
 
 -- five tests asked before what follows them
 five_first : {A : Type 0} (x : Answer A) (a b c d e : Bool)
-    → unless 6 a (unless 9 b (unless 10 c (unless 40 d (unless 41 e x))))
-    ≡ ◌>>=◌ {A = Unit {0}} (unless 6 a (unless 9 b (unless 10 c (unless 40 d (unless 41 e (given tt)))))) (λ _. x)
+    → unless CopiesDiffer a (unless NameNotAllowed b (unless NameTaken c (unless LengthWrong d (unless NoRowLeft e x))))
+    ≡ ◌>>=◌ {A = Unit {0}} (unless CopiesDiffer a (unless NameNotAllowed b (unless NameTaken c (unless LengthWrong d (unless NoRowLeft e (given tt)))))) (λ _. x)
 unfolding unless ◌>>=◌
 five_first x true true true true true = refl
 five_first x true true true true false = refl
@@ -95,7 +96,7 @@ module _ (s : Setting) (img : List ℕ) (v : View) (h : view s img ≡ given v) 
   es_found = has_start 0 (length img) (entries (block img v.table)) (places (block img v.pointers)) size
 
   create_asked : job s img v (create n size)
-      ≡ new_asked img v n size >>= λ _. unless 42 es_found
+      ≡ new_asked img v n size >>= λ _. unless NoStart es_found
       (given (create_steps v.spt0 v.spt1 (block img v.table) n (created_start img v size) size))
   unfolding job new_asked
   create_asked =
@@ -115,24 +116,24 @@ module _ (s : Setting) (img : List ℕ) (v : View) (h : view s img ≡ given v) 
     pub name_passed : name_allowed n ≡ true
     unfolding new_asked
     name_passed =
-        let (_, e) = unless-given 6 (copies_equal img v) _ tt passed in
-        (unless-given 9 (name_allowed n) _ tt e).0
+        let (_, e) = unless-given CopiesDiffer (copies_equal img v) _ tt passed in
+        (unless-given NameNotAllowed (name_allowed n) _ tt e).0
 
     after_name : ◌≡◌ {A = Answer (Unit {0})}
-        (unless 40 (size_right size) (unless 41 (ltb (entry_count (block img v.table)) 127) (given tt))) (given tt)
+        (unless LengthWrong (size_right size) (unless NoRowLeft (ltb (entry_count (block img v.table)) 127) (given tt))) (given tt)
     unfolding new_asked
     after_name =
-        let (_, e) = unless-given 6 (copies_equal img v) _ tt passed in
-        let (_, e) = unless-given 9 (name_allowed n) _ tt e in
-        (unless-given 10 (not (any (has_name n) (entries (block img v.table)))) _ tt e).1
+        let (_, e) = unless-given CopiesDiffer (copies_equal img v) _ tt passed in
+        let (_, e) = unless-given NameNotAllowed (name_allowed n) _ tt e in
+        (unless-given NameTaken (not (any (has_name n) (entries (block img v.table)))) _ tt e).1
 
     pub size_passed : size_right size ≡ true
-    size_passed = (unless-given 40 (size_right size) _ tt after_name).0
+    size_passed = (unless-given LengthWrong (size_right size) _ tt after_name).0
 
     pub row_left : entry_count (block img v.table) < 127
     row_left =
-        let (_, e) = unless-given 40 (size_right size) _ tt after_name in
-        ltb-true (entry_count (block img v.table)) 127 (unless-given 41 _ (given tt) tt e).0
+        let (_, e) = unless-given LengthWrong (size_right size) _ tt after_name in
+        ltb-true (entry_count (block img v.table)) 127 (unless-given NoRowLeft _ (given tt) tt e).0
 
     -- by the table t with m entries and the pointer block p read, and the lowest start
     module _ (t p : List ℕ) (m start : ℕ) (et : t ≡ block img v.table) (ep : p ≡ block img v.pointers)
@@ -149,12 +150,12 @@ module _ (s : Setting) (img : List ℕ) (v : View) (h : view s img ≡ given v) 
           ∙ ap (λ (a : ℕ). ltb a (length img)) (sym same_start)
 
       rest_asked : job s img v (create n size)
-          ≡ unless 42 (ltb start (length img))
+          ≡ unless NoStart (ltb start (length img))
           (given (create_steps v.spt0 v.spt1 (block img v.table) n (created_start img v size) size))
       unfolding ◌>>=◌
       rest_asked = create_asked ∙ rw (passed, found_start)
 
-      pub create-refused_42 : length img ≤ start → job s img v (create n size) ≡ refused (numbered 42)
+      pub create-refused_42 : length img ≤ start → job s img v (create n size) ≡ refused NoStart
       unfolding unless
       create-refused_42 past = rest_asked ∙ rw (le-ltb start (length img) past)
 
@@ -180,7 +181,7 @@ module _ (s : Setting) (img : List ℕ) (v : View) (h : view s img ≡ given v) 
 
   module _ (q : o ≡ Started) (t p ks : List ℕ) (et : t ≡ block img v.table) (ep : p ≡ block img v.pointers)
       (ek : ks ≡ giving (starts t) k 0 (places p)) where
-    pub delete-refused_43 : 0 < length ks → job s img v (delete k) ≡ refused (numbered 43)
+    pub delete-refused_43 : 0 < length ks → job s img v (delete k) ≡ refused IsInOrder
     unfolding job unless
     delete-refused_43 some =
         passed_by s img v h k o asked q _ ∙ rw (in_order_by img v k t p ks et ep ek, lt-ltb 0 (length ks) some)

@@ -14,7 +14,7 @@ use mathlib.Core.List.{List}
 use Prim.Native.Nat.{ℕ}
 use lib.ListN.{length, get_or}
 use Rattle.rules.specs.Bytes.{block}
-use Rattle.rules.specs.Answers.{Answer, refused, given, numbered, unless, ◌>>=◌}
+use Rattle.rules.specs.Answers.{Answer, refused, given, unless, ◌>>=◌}
 use Rattle.rules.specs.declared.Setting.{Setting}
 use Rattle.rules.specs.Table.{entries, table_stands, starts, cpb0_of, cpb1_of}
 use Rattle.rules.specs.Pointers.{pointers_stand}
@@ -26,6 +26,7 @@ use Rattle.rules.specs.declared.View.{View}
 use Rattle.rules.proofs.Lists.Tests.{given_inj, bind_given, unless-given}
 use Rattle.rules.proofs.Copies.CopyRead.{WhichAddress, which_address, copy_read_same}
 use Rattle.unread.specs.SameBlocks.{SameBlocks, SameSlot}
+use Rattle.rules.specs.declared.Refusal.TheVariants.{BadLength, BadGranule, BadAddresses, NoPointers, NoSuchSlot, SlotEmpty, NoPlaceLeft}
 
 -- what is asked further need agree only on what is given
 bind_same : {A B : Type 0} (a : Answer A) (f g : A → Answer B)
@@ -63,7 +64,7 @@ module _ (s : Setting) (img img' : List ℕ) (same : SameBlocks s img img') wher
   through_same at e =
       rw (
         ← table_same at e,
-        copy_read_same (numbered 5) pointers_stand img' img (cpb0_of (block img at)) (cpb1_of (block img at))
+        copy_read_same NoPointers pointers_stand img' img (cpb0_of (block img at)) (cpb1_of (block img at))
             (same.cpb0 at e) (same.cpb1 at e),
       )
 
@@ -94,7 +95,7 @@ module _ (s : Setting) (img img' : List ℕ) (same : SameBlocks s img img') wher
       → block img a ≡ block img' a
   unfolding pointers_read
   pointers_same at a read e =
-      pick (which_address (numbered 5) pointers_stand img (cpb0_of (block img at)) (cpb1_of (block img at)) a e)
+      pick (which_address NoPointers pointers_stand img (cpb0_of (block img at)) (cpb1_of (block img at)) a e)
     where
       pick : WhichAddress pointers_stand img (cpb0_of (block img at)) (cpb1_of (block img at)) a
           → block img a ≡ block img' a
@@ -104,9 +105,9 @@ module _ (s : Setting) (img img' : List ℕ) (same : SameBlocks s img img') wher
   blocks_same : (v : View) → view s img ≡ given v → BlocksSame v
   unfolding view view_through
   blocks_same v e =
-      let (_, e1) = unless-given 1 _ _ v e in
-      let (_, e2) = unless-given 2 _ _ v e1 in
-      let (_, e3) = unless-given 3 _ _ v e2 in
+      let (_, e1) = unless-given BadLength _ _ v e in
+      let (_, e2) = unless-given BadGranule _ _ v e1 in
+      let (_, e3) = unless-given BadAddresses _ _ v e2 in
       let (at, read, e4) = bind_given _ _ v e3 in
       let (a, found, e5) = bind_given _ _ v e4 in
       subst BlocksSame (given_inj _ v e5) (record {
@@ -187,8 +188,8 @@ module _ (s : Setting) (img img' : List ℕ) (same : SameBlocks s img img') wher
       let a = get_or (starts t) k 0 in
       rw (
         agree_same v b,
-        unless_same 7 14 (slot_there (entries t) k) (not (slot_empty img a)) (not (slot_empty img' a))
-            (unless 15 (enough_places (starts t) (block img v.pointers) k)
+        unless_same NoSuchSlot SlotEmpty (slot_there (entries t) k) (not (slot_empty img a)) (not (slot_empty img' a))
+            (unless NoPlaceLeft (enough_places (starts t) (block img v.pointers) k)
             (given (enable_steps v.cpb0 v.cpb1 (starts t) (block img v.pointers) k)))
             (λ there. rw (slot k v.table refl b.reads there)),
         b.table,

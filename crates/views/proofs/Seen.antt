@@ -9,7 +9,7 @@ use lib.Dec.{eqb, leb}
 use borrow.Author.Tests.{leb-true}
 use lib.ListN.{length}
 use Rattle.rules.specs.Bytes.{block, block_size, multiple}
-use Rattle.rules.specs.Answers.{given, numbered}
+use Rattle.rules.specs.Answers.{given}
 use Rattle.rules.specs.Numbers.{length_right, granule_right, address_right, addresses_right}
 use Rattle.rules.specs.declared.Setting.{Setting}
 use Rattle.rules.specs.Table.{cpb0_of, cpb1_of, table_stands}
@@ -23,6 +23,7 @@ use Rattle.rules.proofs.Table.Standing.{FourBlocks, standing, at_most_127, four_
 use Rattle.rules.proofs.Claim.Invariant.{granule_holds_block}
 use Rattle.bounds.specs.Inner.Due.{NoneDue}
 use Rattle.views.specs.Inner.Followed.{BothInside, Followed}
+use Rattle.rules.specs.declared.Refusal.TheVariants.{BadLength, BadGranule, BadAddresses, NoPointers}
 
 -- ---- a copy that is read
 
@@ -60,9 +61,9 @@ pub record Seen (s : Setting) (img : List ℕ) (v : View) : Type 0 where
 pub seen : (s : Setting) (img : List ℕ) (v : View) → view s img ≡ given v → Seen s img v
 unfolding view view_through
 seen s img v h =
-    let (long, h1) = unless-given 1 (length_right (length img)) _ v h in
-    let (grained, h2) = unless-given 2 (granule_right s.granule) _ v h1 in
-    let (placed, h3) = unless-given 3 (addresses_right s (length img)) _ v h2 in
+    let (long, h1) = unless-given BadLength (length_right (length img)) _ v h in
+    let (grained, h2) = unless-given BadGranule (granule_right s.granule) _ v h1 in
+    let (placed, h3) = unless-given BadAddresses (addresses_right s (length img)) _ v h2 in
     let (at, table, h4) = bind_given (table_read s img) (view_through s img) v h3 in
     let (p, pointers, h5) = bind_given (pointers_read img (block img at)) _ v h4 in
     rw (← given_inj _ v h5) (record {
@@ -128,7 +129,7 @@ module _ (s : Setting) (img : List ℕ) (v : View) (k : Seen s img v) where
   pub pointers_read_stand : pointers_stand (block img v.pointers) ≡ true
   unfolding pointers_read
   pointers_read_stand =
-      copy_stands (numbered 5) pointers_stand img (cpb0_of (block img v.table)) (cpb1_of (block img v.table)) v.pointers
+      copy_stands NoPointers pointers_stand img (cpb0_of (block img v.table)) (cpb1_of (block img v.table)) v.pointers
       k.pointer_copy
 
   pub blocks_inside : FourBlocks s.granule (length img) s.spt0 s.spt1 v.cpb0 v.cpb1
@@ -149,6 +150,6 @@ module _ (s : Setting) (img : List ℕ) (v : View) (k : Seen s img v) where
   pub pointers_inside : v.pointers + block_size ≤ length img
   unfolding pointers_read
   pointers_inside =
-      of_either (numbered 5) pointers_stand img (cpb0_of (block img v.table)) (cpb1_of (block img v.table)) v.pointers
+      of_either NoPointers pointers_stand img (cpb0_of (block img v.table)) (cpb1_of (block img v.table)) v.pointers
       k.pointer_copy (λ (a : ℕ). a + block_size ≤ length img)
       table_followed.cpb0_inside table_followed.cpb1_inside

@@ -5,7 +5,7 @@ use mathlib.Core.List.{List}
 use Prim.Native.Nat.{ℕ}
 use lib.ListN.{length}
 use Rattle.rules.specs.Bytes.{block}
-use Rattle.rules.specs.Answers.{refused, given, numbered, unless, ◌>>=◌}
+use Rattle.rules.specs.Answers.{refused, given, unless, ◌>>=◌}
 use Rattle.rules.specs.declared.Setting.{Setting}
 use Rattle.rules.specs.Table.{cpb0_of, cpb1_of, magic_right, table_stands, fault}
 use Rattle.rules.specs.Pointers.{pointers_stand}
@@ -13,6 +13,7 @@ use Rattle.rules.specs.Copies.{copy_read, no_table, table_read, pointers_read, v
 use Rattle.rules.specs.declared.Refusal.{Refusal}
 use Rattle.rules.specs.declared.View.{View}
 use Rattle.bounds.specs.Inner.Due.{NoneDue}
+use Rattle.rules.specs.declared.Refusal.TheVariants.{NoPointers}
 
 -- where things are by the table at an address, with a pointer copy
 abbrev pub view_at : Setting → List ℕ → ℕ → ℕ → View
@@ -40,7 +41,7 @@ module _ (s : Setting) (img : List ℕ) (at : ℕ) where
     unfolding view_through pointers_read copy_read ◌>>=◌
     through_cpb1 h = rw (no0, h)
 
-    pub refused_5 : pointers_stand (block img (cpb1_of (block img at))) ≡ false → view_through s img at ≡ refused (numbered 5)
+    pub refused_5 : pointers_stand (block img (cpb1_of (block img at))) ≡ false → view_through s img at ≡ refused NoPointers
     unfolding view_through pointers_read copy_read ◌>>=◌
     refused_5 h = rw (no0, h)
 

@@ -3,7 +3,7 @@
 use mathlib.Core.Path.{◌≡◌, refl, ◌∙◌}
 use mathlib.Core.Bool.{Bool, true, false, cond, ◌&&◌}
 use mathlib.Core.List.{List, [], ◌∷◌}
-use mathlib.Core.Option.{none, some}
+use Rattle.std.specs.Prelude.{None, Some}
 use Prim.Native.Nat.{ℕ, zero, suc, ◌-◌, ◌≤◌, ◌<◌}
 use native.Mathlib.Omega.{arith}
 use lib.Dec.{eqb, ltb, leb-suc-suc, leb-zero}
@@ -20,14 +20,14 @@ use Rattle.walks.specs.Entries.{slot_from}
 use Rattle.walks.proofs.Joined.{and_with_false}
 use Rattle.walks.proofs.Entries.{take_entries}
 
-one_more-cond : (b : Bool) (k : ℕ) → one_more (cond b (some k) none) ≡ cond b (some (suc k)) none
+one_more-cond : (b : Bool) (k : ℕ) → one_more (cond b (Some k) None) ≡ cond b (Some (suc k)) None
 unfolding one_more
 one_more-cond true k = refl
 one_more-cond false k = refl
 
 slot_at-find : (es : List Entry) (a : ℕ)
     → slot_at (slot_starts es) a
-    ≡ cond (ltb (find (slot_from a) es) (length es)) (some (length (slots (take (find (slot_from a) es) es)))) none
+    ≡ cond (ltb (find (slot_from a) es) (length es)) (Some (length (slots (take (find (slot_from a) es) es)))) None
 unfolding slot_starts slots slot_at find slot_from keep
 slot_at-find [] a = refl
 slot_at-find (e ∷ es) a =
@@ -39,11 +39,11 @@ slot_at-find (e ∷ es) a =
 
 -- of the first n entries of a table, by the number i that the search gave
 module _ (n : ℕ) (t : List ℕ) (a i : ℕ) (e : i ≡ find (slot_from a) (rows n t)) where
-  pub slot_at_found : i < n → slot_at (slot_starts (rows n t)) a ≡ some (length (slots (rows i t)))
+  pub slot_at_found : i < n → slot_at (slot_starts (rows n t)) a ≡ Some (length (slots (rows i t)))
   slot_at_found h =
       slot_at-find (rows n t) a ∙ rw (← e, length-entries_from, lt-ltb i n h, take_entries i n (drop 0x20 t) (omega arith))
 
-  pub slot_at_not_found : n ≤ i → slot_at (slot_starts (rows n t)) a ≡ none
+  pub slot_at_not_found : n ≤ i → slot_at (slot_starts (rows n t)) a ≡ None
   slot_at_not_found h = slot_at-find (rows n t) a ∙ rw (← e, length-entries_from, le-ltb i n h)
 
 -- ---- the entry number of the k-th slot: `es` is what is left to walk

@@ -8,7 +8,7 @@ use lib.Dec.{eqb, ltb}
 use lib.ListN.{take, drop, length, get_or, replicate}
 use Rattle.rules.specs.Lists.{same, without, pairwise, first_failing, first_clash, keep, first}
 use Rattle.rules.specs.Bytes.{little_endian, bytes_of, field, block, up_to_zero, multiple}
-use Rattle.rules.specs.Answers.{refused, given, unless, ◌>>=◌, broken, no_fault, numbered}
+use Rattle.rules.specs.Answers.{refused, given, unless, ◌>>=◌, broken, no_fault}
 use Rattle.rules.specs.Numbers.{setting, length_right, granule_right, addresses_right}
 use Rattle.rules.specs.Table.{Entry, entry, entry_count, entries, boot_info, spt0_name, cpb0_name, cpb1_name, has_name, is_fixed_name, no_entry, named, cpb0_of, header_right, count_right, name_right, names_differ, range_aligned, range_inside, ranges_apart, six_named, boot_info_at_0, tables_as_told, on_granules, blocks_on_granules, table_stands, entries_fault, fault, is_slot, starts}
 use Rattle.rules.specs.Pointers.{pointers_stand, places, erased_value, judged, order}
@@ -24,6 +24,8 @@ use Rattle.rules.specs.declared.Place.TheVariants.{Erased, Live, Spent, PartWrit
 use Rattle.rules.specs.declared.Step.{Step}
 use Rattle.rules.specs.declared.Step.TheVariants.{Program, Erase}
 use Rattle.quarry.proofs.Opened.{rules}
+use Rattle.rules.specs.declared.Refusal.TheVariants.{NoPointers, NoSuchSlot, NoStepsLeft, OutsideImage, RowTooShort}
+use Rattle.rules.specs.declared.TableRule.TheVariants.{HeaderRight, CountRight, NameRight, NamesDiffer, RangeAligned, RangeInside, RangesApart, SixNamed, BootInfoAtZero, TablesAsTold, BlocksOnGranules}
 
 -- three application slots' starts, slot number 0 first
 abbrev three_starts : List ℕ
@@ -69,8 +71,8 @@ list_and_byte_examples = (refl, refl, refl, refl, refl, refl, refl, refl, refl, 
 -- ---- answers, and refusals 1 to 3
 
 number_examples :
-    ((unless 7 false (given three_starts) >>= λ a. given (length a)) ≡ refused (numbered 7))
-    × ((unless 7 true (given three_starts) >>= λ a. given (length a)) ≡ given 3)
+    ((unless NoSuchSlot false (given three_starts) >>= λ a. given (length a)) ≡ refused NoSuchSlot)
+    × ((unless NoSuchSlot true (given three_starts) >>= λ a. given (length a)) ≡ given 3)
     × (map length_right (0 ∷ 4096 ∷ 4097 ∷ 268435456 ∷ 268439552 ∷ []) ≡ false ∷ true ∷ false ∷ true ∷ false ∷ [])
     × (map granule_right (4096 ∷ 8192 ∷ 32768 ∷ 65536 ∷ []) ≡ true ∷ false ∷ true ∷ true ∷ [])
     × (map (addresses_right (setting 4096 0x4000 0x5000)) (0x6000 ∷ 0x5000 ∷ []) ≡ true ∷ false ∷ [])
@@ -146,19 +148,19 @@ fault_examples :
     (first_failing (ltb 1) (2 ∷ 3 ∷ 1 ∷ 0 ∷ []) ≡ 2)
     × (map (first_clash ltb []) ((1 ∷ 3 ∷ 2 ∷ 1 ∷ []) ∷ (1 ∷ 2 ∷ []) ∷ []) ≡ 2 ∷ 2 ∷ [])
     × (map (fault quarry_setting 0xC000) ([] ∷ (take 4 table ++ (1 ∷ drop 5 table)) ∷ table ∷ [])
-    ≡ broken 1 127 ∷ broken 1 127 ∷ no_fault ∷ [])
+    ≡ broken HeaderRight 127 ∷ broken HeaderRight 127 ∷ no_fault ∷ [])
     × (map (λ n. fault quarry_setting 0xC000 (take 8 table ++ (n ∷ drop 9 table))) (0 ∷ 128 ∷ [])
-    ≡ broken 2 127 ∷ broken 2 127 ∷ [])
-    × (told (with_entry 7 (slot_of_name []) ++ (slot_of_name [] ∷ [])) ≡ broken 3 7)
-    × (map (λ k. told (with_entry k (slot_of_name spt0_name))) (1 ∷ 8 ∷ []) ≡ broken 4 2 ∷ broken 4 8 ∷ [])
-    × (told (with_entry 7 (slot_from 0x9001) ++ (slot_from 0x9001 ∷ [])) ≡ broken 4 9)
+    ≡ broken CountRight 127 ∷ broken CountRight 127 ∷ [])
+    × (told (with_entry 7 (slot_of_name []) ++ (slot_of_name [] ∷ [])) ≡ broken NameRight 7)
+    × (map (λ k. told (with_entry k (slot_of_name spt0_name))) (1 ∷ 8 ∷ []) ≡ broken NamesDiffer 2 ∷ broken NamesDiffer 8 ∷ [])
+    × (told (with_entry 7 (slot_from 0x9001) ++ (slot_from 0x9001 ∷ [])) ≡ broken NamesDiffer 9)
     × (map (λ a. told (with_entry 7 (slot_from a))) (0x9001 ∷ 0xC000 ∷ 0x8000 ∷ 0xA000 ∷ [])
-    ≡ broken 5 7 ∷ broken 6 7 ∷ broken 7 7 ∷ broken 7 8 ∷ [])
-    × (told (drop 1 (entries table)) ≡ broken 8 127)
-    × (told (with_entry 0 (boot_info_from 0xB000)) ≡ broken 9 0)
+    ≡ broken RangeAligned 7 ∷ broken RangeInside 7 ∷ broken RangesApart 7 ∷ broken RangesApart 8 ∷ [])
+    × (told (drop 1 (entries table)) ≡ broken SixNamed 127)
+    × (told (with_entry 0 (boot_info_from 0xB000)) ≡ broken BootInfoAtZero 0)
     × (map (λ s. fault s 0xC000 table)
     (setting 4096 0x5000 0x4000 ∷ setting 4096 0x4000 0x9000 ∷ setting 32768 0x4000 0x5000 ∷ [])
-    ≡ broken 10 2 ∷ broken 10 3 ∷ broken 11 2 ∷ [])
+    ≡ broken TablesAsTold 2 ∷ broken TablesAsTold 3 ∷ broken BlocksOnGranules 2 ∷ [])
     × (told (entries table) ≡ no_fault)
 unfolding rules table
 fault_examples = (refl, refl, refl, refl, refl, refl, refl, refl, refl, refl, refl, refl)
@@ -183,14 +185,14 @@ pointer_examples = (refl, refl, refl, refl, refl, refl, refl, refl)
 -- ---- copies and dumps
 
 copy_and_dump_examples :
-    (copy_read (numbered 5) begins_with_1 (1 ∷ 1 ∷ []) 0 1 ≡ given 0)
-    × (copy_read (numbered 5) begins_with_1 (2 ∷ 1 ∷ []) 0 1 ≡ given 1)
-    × (copy_read (numbered 5) begins_with_1 (2 ∷ 2 ∷ []) 0 1 ≡ refused (numbered 5))
+    (copy_read NoPointers begins_with_1 (1 ∷ 1 ∷ []) 0 1 ≡ given 0)
+    × (copy_read NoPointers begins_with_1 (2 ∷ 1 ∷ []) 0 1 ≡ given 1)
+    × (copy_read NoPointers begins_with_1 (2 ∷ 2 ∷ []) 0 1 ≡ refused NoPointers)
     × (map (λ img. (no_table (setting 4096 0 8) img).number)
     (replicate 16 0 ∷ (bytes_of 8 0 ++ bytes_of 4 0x57713427) ∷ (bytes_of 4 0x57713427 ++ bytes_of 4 1) ∷ [])
     ≡ 50 ∷ 51 ∷ 51 ∷ [])
     × (no_table (setting 4096 0 0x1000) (table ++ replicate 4096 0)
-    ≡ record { number = 51; fault0 = broken 6 1; fault1 = broken 1 127 })
+    ≡ record { number = 51; fault0 = broken RangeInside 1; fault1 = broken HeaderRight 127 })
     × (pair_agrees begins_with_1 (1 ∷ 1 ∷ []) 0 1 ≡ false)
     × (map (λ b. pair_agrees begins_with_1 (b ∷ []) 0 0) (1 ∷ 2 ∷ []) ≡ true ∷ false ∷ [])
     × (standing_dump (quarry_pointers []) (quarry_pointers (0 ∷ [])) ≡ quarry_pointers [])
@@ -205,9 +207,9 @@ copy_and_dump_examples = (refl, refl, refl, refl, refl, refl, refl, refl, refl, 
 
 reader_examples :
     (order_in (1 ∷ 0 ∷ []) 2 ≡ given (1 ∷ 0 ∷ []))
-    × (order_in (1 ∷ 0 ∷ []) 1 ≡ refused (numbered 13))
+    × (order_in (1 ∷ 0 ∷ []) 1 ≡ refused RowTooShort)
     × (row_after (given (1 ∷ 0 ∷ [])) (7 ∷ 8 ∷ 9 ∷ []) ≡ 1 ∷ 0 ∷ 9 ∷ [])
-    × (row_after (refused (numbered 13)) (7 ∷ 8 ∷ 9 ∷ []) ≡ 7 ∷ 8 ∷ 9 ∷ [])
+    × (row_after (refused RowTooShort) (7 ∷ 8 ∷ 9 ∷ []) ≡ 7 ∷ 8 ∷ 9 ∷ [])
     × (map (slot_row (entries table)) (0 ∷ 2 ∷ 3 ∷ []) ≡ 6 ∷ 8 ∷ 9 ∷ [])
     × ((info (entries table) 1).start ≡ 0x9000)
     × (map (name_in (entries table)) (1 ∷ 3 ∷ []) ≡ (80 ∷ 50 ∷ []) ∷ [] ∷ [])
@@ -294,10 +296,10 @@ run_and_cut_examples :
     × (run 1 1 (at (7 ∷ []) (Erase 0 ∷ Program 0 3 ∷ [])) ≡ at (0xFF ∷ []) (Program 0 3 ∷ []))
     × (run 1 9 (at (7 ∷ []) (Erase 0 ∷ Program 0 3 ∷ [])) ≡ at (3 ∷ []) [])
     × (runs 1 (1 ∷ 0 ∷ 1 ∷ []) (at (7 ∷ []) (Erase 0 ∷ Program 0 3 ∷ [])) ≡ at (3 ∷ []) [])
-    × (may_run 1 2 (at (7 ∷ []) []) ≡ refused (numbered 11))
-    × (may_run 1 2 (at (7 ∷ []) (Program 0 3 ∷ [])) ≡ refused (numbered 12))
-    × (may_run 1 1 (at (7 ∷ []) (Program 0 3 ∷ Program 1 3 ∷ [])) ≡ refused (numbered 12))
-    × (may_run 2 1 (at (7 ∷ []) (Erase 0 ∷ [])) ≡ refused (numbered 12))
+    × (may_run 1 2 (at (7 ∷ []) []) ≡ refused NoStepsLeft)
+    × (may_run 1 2 (at (7 ∷ []) (Program 0 3 ∷ [])) ≡ refused OutsideImage)
+    × (may_run 1 1 (at (7 ∷ []) (Program 0 3 ∷ Program 1 3 ∷ [])) ≡ refused OutsideImage)
+    × (may_run 2 1 (at (7 ∷ []) (Erase 0 ∷ [])) ≡ refused OutsideImage)
     × (may_run 1 1 (at (7 ∷ []) (Erase 0 ∷ [])) ≡ given (at (7 ∷ []) (Erase 0 ∷ [])))
     × (wiped_where (true ∷ false ∷ true ∷ []) (1 ∷ 2 ∷ 3 ∷ 4 ∷ []) ≡ 0xFF ∷ 2 ∷ 0xFF ∷ 4 ∷ [])
     × (half_done 3 (false ∷ true ∷ []) (Erase 1 ∷ []) (1 ∷ 2 ∷ 3 ∷ 4 ∷ []) ≡ 1 ∷ 2 ∷ 0xFF ∷ 4 ∷ [])

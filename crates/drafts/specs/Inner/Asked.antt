@@ -10,6 +10,7 @@ use Rattle.rules.specs.Commands.{name_allowed, size_right}
 use Rattle.rules.specs.declared.View.{View}
 use Rattle.drafts.specs.declared.Outcome.{Outcome}
 use Rattle.drafts.specs.declared.Outcome.TheVariants.{Started, Refused}
+use Rattle.rules.specs.declared.Refusal.TheVariants.{CopiesDiffer, NoSuchSlot, NameNotAllowed, NameTaken, LengthWrong, NoRowLeft}
 
 unfoldable pub outcome : Outcome → Answer (Unit {0})
 outcome Started = given tt
@@ -23,14 +24,14 @@ copies_equal img v =
 -- refusals 6 and 7
 unfoldable pub slot_asked : List ℕ → View → ℕ → Answer (Unit {0})
 slot_asked img v k =
-    unless 6 (copies_equal img v) (unless 7 (slot_there (entries (block img v.table)) k) (given tt))
+    unless CopiesDiffer (copies_equal img v) (unless NoSuchSlot (slot_there (entries (block img v.table)) k) (given tt))
 
 -- refusals 6, 9, 10, 40 and 41
 unfoldable pub new_asked : List ℕ → View → List ℕ → ℕ → Answer (Unit {0})
 new_asked img v n size =
-    unless 6 (copies_equal img v)
-    (unless 9 (name_allowed n)
-    (unless 10 (not (any (has_name n) (entries (block img v.table))))
-    (unless 40 (size_right size)
-    (unless 41 (ltb (entry_count (block img v.table)) 127)
+    unless CopiesDiffer (copies_equal img v)
+    (unless NameNotAllowed (name_allowed n)
+    (unless NameTaken (not (any (has_name n) (entries (block img v.table))))
+    (unless LengthWrong (size_right size)
+    (unless NoRowLeft (ltb (entry_count (block img v.table)) 127)
     (given tt)))))

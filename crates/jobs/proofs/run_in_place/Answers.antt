@@ -3,13 +3,14 @@ use mathlib.Core.Path.{◌∙◌}
 use native.Mathlib.Omega.{arith}
 use lib.Dec.{eqb}
 use lib.ListN.{length}
-use Rattle.rules.specs.Answers.{numbered}
+
 use Rattle.rules.proofs.Lists.Tests.{and_true}
 use Rattle.jobs.specs.Jobs.{lent, steps_of}
 use Rattle.part_steps.specs.Inner.Windows.{chosen}
 use Rattle.jobs.specs.declared.Job.{Job}
 use Rattle.jobs.proofs.Running.{Arrays, one_fails, both_hold, stays, goes, finished_11, outside_12, inside_given}
 use Rattle.jobs.proofs.run_in_place.Goals as goal
+use Rattle.rules.specs.declared.Refusal.TheVariants.{NoStepsLeft, OutsideImage}
 
 pub returns-then-count-done : goal.returns-then-count-done
 returns-then-count-done c =
@@ -18,7 +19,7 @@ returns-then-count-done c =
     c.args.value.now in
     let sizes : Arrays (job) = record { first = c.requires.0; second = c.requires.1 } in
     let a = c.args in
-    stays (job) a.budget (numbered 11) a.image.now
+    stays (job) a.budget NoStepsLeft a.image.now
     (finished_11 (job) (sizes) a.image.now (omega (arith, c.step_count-count.ensures.0)))
 
 pub returns-then-image-plan : goal.returns-then-image-plan
@@ -28,7 +29,7 @@ returns-then-image-plan c =
     c.args.value.now in
     let sizes : Arrays (job) = record { first = c.requires.0; second = c.requires.1 } in
     let a = c.args in
-    stays (job) a.budget (numbered 12) a.image.now
+    stays (job) a.budget OutsideImage a.image.now
     (outside_12 (job) (sizes) a.image.now (omega (arith, c.step_count-count.ensures.0))
     (rw (← c.steps_inside.ensures) (one_fails (eqb (length a.image.now) a.plan.len)
     c.steps_inside.result c.if-image-plan.true)))

@@ -22,6 +22,7 @@ use Rattle.rules.proofs.Claim.Invariant.{Beginning, FourGranules, Invariant, blo
 use Rattle.rules.proofs.Claim.Viewing.{viewed, beginning, holds_at_first}
 use Rattle.rules.proofs.Claim.EveryJob.{every_job_right, started}
 use Rattle.rules.proofs.Steps.RunsInside.{asked_runs, Inside, asked_runs_are_runs, refused_11_along}
+use Rattle.rules.specs.declared.Refusal.TheVariants.{NoStepsLeft}
 
 module _ (b : Beginning) (img : List ℕ) (r : Reading) (h : Invariant b img r) where
   granules_inside : (i : ℕ) → FourGranules b i → i < length img
@@ -54,7 +55,7 @@ module _ (s : Setting) (img : List ℕ) (c : Command) (ss : List Step) (bytes : 
   -- whatever the budgets were, the next run is refused 11 where no step is left, and else not refused
   pub never_refused_12 : (ns : List ℕ)
       → may_run s.granule (length img) (runs s.granule ns (under_way img ss))
-      ≡ unless 11 (ltb 0 (length (runs s.granule ns (under_way img ss)).left))
+      ≡ unless NoStepsLeft (ltb 0 (length (runs s.granule ns (under_way img ss)).left))
       (given (runs s.granule ns (under_way img ss)))
   never_refused_12 ns = refused_11_along s.granule (length img) ns (under_way img ss) job_inside
 

@@ -3,7 +3,7 @@
 use mathlib.Core.Path.{◌≡◌, sym, ap, ◌∙◌}
 use mathlib.Core.Bool.{Bool, true}
 use mathlib.Core.List.{List, [], ◌∷◌, ◌++◌, append-nil}
-use mathlib.Core.Option.{Option, none, some}
+use Rattle.std.specs.Prelude.{Option, None, Some}
 use Prim.Native.Nat.{ℕ}
 use Rattle.rules.specs.Bytes.{Bytes}
 use Rattle.rules.specs.Answers.{Answer, given, ◌>>=◌}
@@ -22,8 +22,8 @@ repair_keeps_book s img c choice r e = rw e
 
 -- the slot with the highest priority of an order
 abbrev pub first_slot : List ℕ → Option ℕ
-first_slot [] = none
-first_slot (k ∷ o) = some k
+first_slot [] = None
+first_slot (k ∷ o) = Some k
 
 -- the same of the order that a flash is read with
 abbrev pub slot_started : Setting → List ℕ → Answer (Option ℕ)

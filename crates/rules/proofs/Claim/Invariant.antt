@@ -10,7 +10,7 @@ use lib.Dec.{eqb}
 use borrow.Author.Tests.{eqb-true}
 use lib.ListN.{length}
 use Rattle.rules.specs.Bytes.{Bytes, block, block_size}
-use Rattle.rules.specs.Answers.{given, numbered, unless, ◌>>=◌}
+use Rattle.rules.specs.Answers.{given, unless, ◌>>=◌}
 use Rattle.rules.specs.Numbers.{length_right, granule_right, addresses_right}
 use Rattle.rules.specs.declared.Setting.{Setting}
 use Rattle.rules.specs.Table.{table_magic, magic_right, header_right, table_stands, starts, cpb0_of, cpb1_of}
@@ -26,6 +26,7 @@ use Rattle.rules.proofs.Copies.PairCuts.{Two, Pair, Reads}
 use Rattle.rules.proofs.Pointers.PointerHeader.{two_pointer_blocks}
 use Rattle.rules.proofs.Table.Standing.{Standing, standing, Apart, FourBlocks}
 use Rattle.rules.proofs.Table.SlotStarts.{length_fits, SlotStarts, slot_starts_right}
+use Rattle.rules.specs.declared.Refusal.TheVariants.{NoPointers}
 
 pub table_torn : (s : Setting) (len : ℕ) (t : List ℕ) → Torn t → table_stands s len t ≡ false
 unfolding table_stands header_right magic_right
@@ -138,8 +139,8 @@ module _ (beginning : Beginning) where
     table_address =
         address_read (no_table s img) (table_stands s (length first)) img s.spt0 s.spt1 r.table h.reads_table
 
-    pub pointers_address : (a : ℕ) × (copy_read (numbered 5) pointers_stand img c0 c1 ≡ given a) × (block img a ≡ h.pointers)
-    pointers_address = address_read (numbered 5) pointers_stand img c0 c1 h.pointers h.reads_pointers
+    pub pointers_address : (a : ℕ) × (copy_read NoPointers pointers_stand img c0 c1 ≡ given a) × (block img a ≡ h.pointers)
+    pointers_address = address_read NoPointers pointers_stand img c0 c1 h.pointers h.reads_pointers
 
     pub which_table : WhichAddress (table_stands s (length first)) img s.spt0 s.spt1 table_address.0
     which_table =
@@ -148,7 +149,7 @@ module _ (beginning : Beginning) where
 
     pub which_pointers : WhichAddress pointers_stand img c0 c1 pointers_address.0
     which_pointers =
-        which_address (numbered 5) pointers_stand img c0 c1 pointers_address.0 pointers_address.1
+        which_address NoPointers pointers_stand img c0 c1 pointers_address.0 pointers_address.1
 
     abbrev pub the_view : View
     the_view = record {

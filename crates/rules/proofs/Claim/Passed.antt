@@ -20,6 +20,7 @@ use Rattle.rules.specs.declared.View.{View}
 use Rattle.rules.proofs.Lists.Tests.{unless-given, given_inj}
 use Rattle.rules.proofs.EmptySlots.{not_empty_if_given}
 use Rattle.rules.proofs.Table.Renaming.{Allowed, allowed}
+use Rattle.rules.specs.declared.Refusal.TheVariants.{CopiesDiffer, NoSuchSlot, NotInOrder, NameNotAllowed, NameTaken, NoPlaceLeft, LengthWrong, NoRowLeft, NoStart, IsInOrder}
 
 -- ---- by the table t and the pointer block p read
 
@@ -60,12 +61,12 @@ pub record DeletePassed (s : Setting) (img : List ℕ) (v : View) (t p : List �
 
 -- refusals 6 and 7, which the commands for a slot share
 agree_and_there : (a : Bool) (t : List ℕ) (k : ℕ) (rest : Answer (List Step)) (ss : List Step)
-    → unless 6 a (unless 7 (slot_there (entries t) k) rest) ≡ given ss
+    → unless CopiesDiffer a (unless NoSuchSlot (slot_there (entries t) k) rest) ≡ given ss
     → (a ≡ true) × (k < length (slots (entries t))) × (rest ≡ given ss)
 unfolding slot_there
 agree_and_there a t k rest ss e =
-    let (agrees, e7) = unless-given 6 a _ ss e in
-    let (there, others) = unless-given 7 (slot_there (entries t) k) rest ss e7 in
+    let (agrees, e7) = unless-given CopiesDiffer a _ ss e in
+    let (there, others) = unless-given NoSuchSlot (slot_there (entries t) k) rest ss e7 in
     (agrees, ltb-true k (length (slots (entries t))) there, others)
 
 module _ (s : Setting) (img : List ℕ) (v : View) (t p : List ℕ) (ss : List Step) where
@@ -83,24 +84,24 @@ module _ (s : Setting) (img : List ℕ) (v : View) (t p : List ℕ) (ss : List S
     passed (enable k) e =
         let (agree, there, e14) = agree_and_there (agree_by s img v) t k _ ss (rw (et, ep) at e) in
         let (sent, e15) = not_empty_if_given img (get_or (starts t) k 0) _ ss e14 in
-        let (fits, listed) = unless-given 15 (enough_places (starts t) p k) _ ss e15 in
+        let (fits, listed) = unless-given NoPlaceLeft (enough_places (starts t) p k) _ ss e15 in
         record { agree = agree; there = there; sent = sent; fits = fits; listed = given_inj _ ss listed }
     passed (disable k) e =
         let (agree, there, e8) = agree_and_there (agree_by s img v) t k _ ss (rw (et, ep) at e) in
-        let (in_order, listed) = unless-given 8 (member k (order_by t p)) _ ss e8 in
+        let (in_order, listed) = unless-given NotInOrder (member k (order_by t p)) _ ss e8 in
         record { agree = agree; there = there; in_order = in_order; listed = given_inj _ ss listed }
     passed (rename k n) e =
         let (agree, there, e9) = agree_and_there (agree_by s img v) t k _ ss (rw et at e) in
-        let (name, e10) = unless-given 9 (name_allowed n) _ ss e9 in
-        let (free, listed) = unless-given 10 (name_free (entries t) (slot_row (entries t) k) n) _ ss e10 in
+        let (name, e10) = unless-given NameNotAllowed (name_allowed n) _ ss e9 in
+        let (free, listed) = unless-given NameTaken (name_free (entries t) (slot_row (entries t) k) n) _ ss e10 in
         record { agree = agree; there = there; name = allowed n name; free = free; listed = given_inj _ ss listed }
     passed (create n size) e =
-        let (agree, e9) = unless-given 6 (agree_by s img v) _ ss (rw (et, ep) at e) in
-        let (name, e10) = unless-given 9 (name_allowed n) _ ss e9 in
-        let (free, e40) = unless-given 10 (not (any (has_name n) (entries t))) _ ss e10 in
-        let (right, e41) = unless-given 40 (size_right size) _ ss e40 in
-        let (few, e42) = unless-given 41 (ltb (entry_count t) 127) _ ss e41 in
-        let (found, listed) = unless-given 42 (has_start 0 (length img) (entries t) (places p) size) _ ss e42 in
+        let (agree, e9) = unless-given CopiesDiffer (agree_by s img v) _ ss (rw (et, ep) at e) in
+        let (name, e10) = unless-given NameNotAllowed (name_allowed n) _ ss e9 in
+        let (free, e40) = unless-given NameTaken (not (any (has_name n) (entries t))) _ ss e10 in
+        let (right, e41) = unless-given LengthWrong (size_right size) _ ss e40 in
+        let (few, e42) = unless-given NoRowLeft (ltb (entry_count t) 127) _ ss e41 in
+        let (found, listed) = unless-given NoStart (has_start 0 (length img) (entries t) (places p) size) _ ss e42 in
         record {
           agree = agree;
           name = allowed n name;
@@ -112,7 +113,7 @@ module _ (s : Setting) (img : List ℕ) (v : View) (t p : List ℕ) (ss : List S
         }
     passed (delete k) e =
         let (agree, there, e43) = agree_and_there (agree_by s img v) t k _ ss (rw (et, ep) at e) in
-        let (idle, listed) = unless-given 43 (not (member k (order_by t p))) _ ss e43 in
+        let (idle, listed) = unless-given IsInOrder (not (member k (order_by t p))) _ ss e43 in
         record {
           agree = agree;
           there = there;

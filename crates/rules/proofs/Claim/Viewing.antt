@@ -3,11 +3,11 @@
 use mathlib.Core.Path.{◌≡◌, refl, subst}
 use mathlib.Core.Bool.{Bool, true}
 use mathlib.Core.List.{List}
-use mathlib.Core.Option.{some}
+use Rattle.std.specs.Prelude.{Some}
 use Prim.Native.Nat.{ℕ}
 use lib.ListN.{length}
 use Rattle.rules.specs.Bytes.{Bytes, block}
-use Rattle.rules.specs.Answers.{given, numbered}
+use Rattle.rules.specs.Answers.{given}
 use Rattle.rules.specs.Numbers.{length_right, granule_right, addresses_right}
 use Rattle.rules.specs.declared.Setting.{Setting}
 use Rattle.rules.specs.Table.{table_stands, cpb0_of, cpb1_of}
@@ -20,6 +20,7 @@ use Rattle.rules.proofs.Copies.CopyRead.{block_read, read_stands, which_address,
 use Rattle.rules.proofs.Steps.Frame.{only_none}
 use Rattle.rules.proofs.Table.Standing.{standing, four_blocks}
 use Rattle.rules.proofs.Claim.Invariant.{Beginning, Invariant}
+use Rattle.rules.specs.declared.Refusal.TheVariants.{BadLength, BadGranule, BadAddresses, NoPointers}
 
 -- the five tests passed, and which copies are read
 pub record Viewed (s : Setting) (img : List ℕ) (v : View) : Type 0 where
@@ -27,15 +28,15 @@ pub record Viewed (s : Setting) (img : List ℕ) (v : View) : Type 0 where
   pub refusal2 : granule_right s.granule ≡ true
   pub refusal3 : addresses_right s (length img) ≡ true
   pub reads_table : copy_read (no_table s img) (table_stands s (length img)) img s.spt0 s.spt1 ≡ given v.table
-  pub reads_pointers : copy_read (numbered 5) pointers_stand img (cpb0_of (block img v.table)) (cpb1_of (block img v.table))
+  pub reads_pointers : copy_read NoPointers pointers_stand img (cpb0_of (block img v.table)) (cpb1_of (block img v.table))
       ≡ given v.pointers
 
 pub viewed : (s : Setting) (img : List ℕ) (v : View) → view s img ≡ given v → Viewed s img v
 unfolding view table_read view_through pointers_read
 viewed s img v e =
-    let (refusal1, e1) = unless-given 1 (length_right (length img)) _ v e in
-    let (refusal2, e2) = unless-given 2 (granule_right s.granule) _ v e1 in
-    let (refusal3, e3) = unless-given 3 (addresses_right s (length img)) _ v e2 in
+    let (refusal1, e1) = unless-given BadLength (length_right (length img)) _ v e in
+    let (refusal2, e2) = unless-given BadGranule (granule_right s.granule) _ v e1 in
+    let (refusal3, e3) = unless-given BadAddresses (addresses_right s (length img)) _ v e2 in
     let (a, table, e4) = bind_given _ _ v e3 in
     let (b, pointers, e5) = bind_given _ _ v e4 in
     subst (Viewed s img) (given_inj _ v e5) (record {
@@ -53,7 +54,7 @@ module _ (s : Setting) (img : List ℕ) (v : View) (w : Viewed s img v) where
   abbrev tables : List ℕ → Bool
   tables = table_stands s (length img)
 
-  reads_t : block_read tables (block img s.spt0) (block img s.spt1) ≡ some t
+  reads_t : block_read tables (block img s.spt0) (block img s.spt1) ≡ Some t
   reads_t =
       block_at_read tables img s.spt0 s.spt1 v.table
       (which_address (no_table s img) tables img s.spt0 s.spt1 v.table w.reads_table)
@@ -85,6 +86,6 @@ module _ (s : Setting) (img : List ℕ) (v : View) (w : Viewed s img v) where
     pointers = block img v.pointers;
     reads_pointers =
         block_at_read pointers_stand img (cpb0_of t) (cpb1_of t) v.pointers
-        (which_address (numbered 5) pointers_stand img (cpb0_of t) (cpb1_of t) v.pointers w.reads_pointers);
+        (which_address NoPointers pointers_stand img (cpb0_of t) (cpb1_of t) v.pointers w.reads_pointers);
     boots = refl;
   }

@@ -4,7 +4,7 @@ use mathlib.Core.Path.{◌≡◌, subst}
 use mathlib.Core.Bool.{Bool, true, false, cond, ◌&&◌}
 use mathlib.Core.Logic.{◌⊎◌, inl, inr}
 use mathlib.Core.List.{List}
-use mathlib.Core.Option.{Option, none, some}
+use Rattle.std.specs.Prelude.{Option, None, Some}
 use Prim.Native.Nat.{ℕ}
 use native.Mathlib.Omega.{arith}
 use Rattle.rules.specs.Lists.{same}
@@ -16,22 +16,22 @@ use Rattle.rules.proofs.Lists.Tests.{by_cases, clash, and_true, same_true, same_
 
 -- the first block if it stands, else the second if that stands
 unfoldable pub block_read : (List ℕ → Bool) → List ℕ → List ℕ → Option (List ℕ)
-block_read stands x y = cond (stands x) (some x) (cond (stands y) (some y) none)
+block_read stands x y = cond (stands x) (Some x) (cond (stands y) (Some y) None)
 
-some_inj : {A : Type 0} (x y : A) → some x ≡ some y → x ≡ y
+some_inj : {A : Type 0} (x y : A) → Some x ≡ Some y → x ≡ y
 some_inj x y h = cc
 
-none_some : {A : Type 0} (x : A) → none ≡ some x → ⊥
+none_some : {A : Type 0} (x : A) → None ≡ Some x → ⊥
 none_some x h = let z : ◌≡◌ {A = ℕ} 0 1 = cc in omega arith
 
 module _ (stands : List ℕ → Bool) where
   -- ---- by blocks
 
-  pub first_read : (x y : List ℕ) → stands x ≡ true → block_read stands x y ≡ some x
+  pub first_read : (x y : List ℕ) → stands x ≡ true → block_read stands x y ≡ Some x
   unfolding block_read
   first_read x y h = rw h
 
-  pub second_read : (x y : List ℕ) → stands x ≡ false → stands y ≡ true → block_read stands x y ≡ some y
+  pub second_read : (x y : List ℕ) → stands x ≡ false → stands y ≡ true → block_read stands x y ≡ Some y
   unfolding block_read
   second_read x y h k = rw (h, k)
 
@@ -41,7 +41,7 @@ module _ (stands : List ℕ → Bool) where
       ((stands x ≡ true) × (x ≡ b))
       ⊎ ((stands x ≡ false) × (stands y ≡ true) × (y ≡ b))
 
-  pub which_read : (x y b : List ℕ) → block_read stands x y ≡ some b → WhichRead x y b
+  pub which_read : (x y b : List ℕ) → block_read stands x y ≡ Some b → WhichRead x y b
   unfolding block_read
   which_read x y b h = by_cases (stands x)
       (λ t. inl (t, some_inj x b (rw t at h)))
@@ -49,7 +49,7 @@ module _ (stands : List ℕ → Bool) where
       (λ t. inr (f, t, some_inj y b (rw (f, t) at h)))
       (λ g. absurd (none_some b (rw (f, g) at h))))
 
-  pub read_stands : (x y b : List ℕ) → block_read stands x y ≡ some b → stands b ≡ true
+  pub read_stands : (x y b : List ℕ) → block_read stands x y ≡ Some b → stands b ≡ true
   read_stands x y b h = pick (which_read x y b h)
     where
       pick : WhichRead x y b → stands b ≡ true
@@ -57,7 +57,7 @@ module _ (stands : List ℕ → Bool) where
       pick (inr (f, t, e)) = subst (λ (l : List ℕ). stands l ≡ true) e t
 
   -- of two equal blocks the first is read
-  pub equal_read : (x y b : List ℕ) → block_read stands x y ≡ some b → x ≡ y → (x ≡ b) × (stands x ≡ true)
+  pub equal_read : (x y b : List ℕ) → block_read stands x y ≡ Some b → x ≡ y → (x ≡ b) × (stands x ≡ true)
   equal_read x y b h e = split (which_read x y b h)
     where
       split : WhichRead x y b → (x ≡ b) × (stands x ≡ true)
@@ -75,7 +75,7 @@ module _ (stands : List ℕ → Bool) where
 
     pub block_at_read : (a : ℕ)
         → WhichAddress a
-        → block_read stands (block img a0) (block img a1) ≡ some (block img a)
+        → block_read stands (block img a0) (block img a1) ≡ Some (block img a)
     block_at_read a (inl (t, e)) = rw (← e) (first_read (block img a0) (block img a1) t)
     block_at_read a (inr (f, t, e)) = rw (← e) (second_read (block img a0) (block img a1) f t)
 
@@ -91,7 +91,7 @@ module _ (why : Refusal) (stands : List ℕ → Bool) where
         (λ g. absurd (refused_given why a (rw (f, g) at h))))
 
     pub address_read : (b : List ℕ)
-        → block_read stands (block img a0) (block img a1) ≡ some b
+        → block_read stands (block img a0) (block img a1) ≡ Some b
         → (a : ℕ) × (copy_read why stands img a0 a1 ≡ given a) × (block img a ≡ b)
     unfolding copy_read
     address_read b h = split (which_read stands (block img a0) (block img a1) b h)

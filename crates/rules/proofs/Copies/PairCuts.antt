@@ -3,7 +3,7 @@ use mathlib.Core.Path.{◌≡◌, refl, sym, ap, ◌∙◌}
 use mathlib.Core.Bool.{Bool, true, false}
 use mathlib.Core.Logic.{◌⊎◌, inl, inr}
 use mathlib.Core.List.{List, []}
-use mathlib.Core.Option.{some}
+use Rattle.std.specs.Prelude.{Some}
 use Prim.Native.Nat.{ℕ, ◌+◌, ◌≤◌}
 use native.Mathlib.Omega.{arith}
 use borrow.Author.Tests.{eq-eqb, ne_eqb}
@@ -38,7 +38,7 @@ module _ (pair : Pair) where
 
   -- the block read of an image
   abbrev pub Reads : List ℕ → List ℕ → Type 0
-  Reads img b = block_read stands (block img a0) (block img a1) ≡ some b
+  Reads img b = block_read stands (block img a0) (block img a1) ≡ Some b
 
   abbrev pub Changes : List ℕ → List ℕ → Type 0
   Changes img img' = Only (Two granule a0 a1) img img'

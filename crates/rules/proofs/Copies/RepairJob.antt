@@ -2,11 +2,10 @@
 use mathlib.Core.Path.{◌≡◌, sym, ap, ◌∙◌}
 use mathlib.Core.Logic.{◌⊎◌, inl, inr}
 use mathlib.Core.List.{List, ◌++◌}
-use mathlib.Core.Option.{some}
+use Rattle.std.specs.Prelude.{Some}
 use Prim.Native.Nat.{ℕ, ◌+◌, ◌≤◌}
 use lib.ListN.{length}
 use Rattle.rules.specs.Bytes.{Bytes, block}
-use Rattle.rules.specs.Answers.{numbered}
 use Rattle.rules.specs.Table.{table_stands}
 use Rattle.rules.specs.Pointers.{pointers_stand}
 use Rattle.rules.specs.Steps.{steps}
@@ -21,6 +20,7 @@ use Rattle.rules.proofs.Copies.CopyRead.{WhichAddress, copy_read_same}
 use Rattle.rules.proofs.Copies.PairCuts.{Two, Pair, Reads, Changes, repair_pair_same, repair_pair_within, repair_pair_cut, repair_pair_done}
 use Rattle.rules.proofs.Claim.Invariant.{Beginning, TableGranules, PointerGranules, FourGranules, Invariant, table_pair, pointer_pair, tables_kept, pointers_kept, table_address, pointers_address, which_table, which_pointers, the_view, blocks_inside, with_new_tables, with_new_pointers}
 use Rattle.rules.proofs.Claim.JobRight.{JobRight, job_right}
+use Rattle.rules.specs.declared.Refusal.TheVariants.{NoPointers}
 
 -- ---- one pair
 
@@ -40,7 +40,7 @@ module _ (pair : Pair) (img : List ℕ) (in0 : pair.a0 + pair.granule ≤ length
     within = repair_pair_within pair img read reads in0 in1 bytes;
     at_cut = λ img' d.
         let (o, q) = repair_pair_cut pair img read reads in0 in1 bytes img' d in
-        (o, q ∙ ap some e);
+        (o, q ∙ ap Some e);
     at_end = let (e0, e1) = repair_pair_done pair img read reads in0 in1 bytes in e0 ∙ sym e1;
   }
 
@@ -108,7 +108,7 @@ module _ (beginning : Beginning) where
         let (e0, e1) = pointers_kept beginning tables_mended_changes in
         sym (repair_pair_same (pointer_pair beginning) img tables_mended a e0 e1 (which_pointers beginning img r h))
         ∙ ap (λ (x : ℕ). repair_pair pointers_stand tables_mended c0 c1 x)
-        (given_inj a a' (sym (copy_read_same (numbered 5) pointers_stand img tables_mended c0 c1 e0 e1 ∙ at) ∙ at'))
+        (given_inj a a' (sym (copy_read_same NoPointers pointers_stand img tables_mended c0 c1 e0 e1 ∙ at) ∙ at'))
 
     all_within : StepsWithin s.granule (length img) (FourGranules beginning) (first_part ++ second_part)
     all_within =

@@ -27,6 +27,7 @@ use Rattle.rules.proofs.Table.SlotStarts.{length_fits, slot_off_block}
 use Rattle.rules.proofs.Claim.Invariant.{Beginning, FourGranules}
 use Rattle.rules.proofs.Claim.Viewing.{viewed, table_stands_there, beginning}
 use Rattle.rules.proofs.FinalBytes.FinalBytes.{finished_kept}
+use Rattle.rules.specs.declared.Refusal.TheVariants.{CopiesDiffer, NoSuchSlot}
 
 -- a slot keeps its first 4,096 bytes while only the first granules of the four blocks change
 module _ (b : Beginning) (t : List ℕ) (st : Standing b.s (length b.first) t) (at0 : cpb0_of t ≡ b.c0)
@@ -63,8 +64,8 @@ module _ (s : Setting) (img : List ℕ) (v : View) (k : ℕ) (ss : List Step)
   passed : (slot_there (entries t) k ≡ true) × (slot_empty img (get_or (starts t) k 0) ≡ false)
   unfolding job
   passed =
-      let (_, e7) = unless-given 6 (agree_by s img v) _ ss starts_with in
-      let (there, e14) = unless-given 7 (slot_there (entries t) k) _ ss e7 in
+      let (_, e7) = unless-given CopiesDiffer (agree_by s img v) _ ss starts_with in
+      let (there, e14) = unless-given NoSuchSlot (slot_there (entries t) k) _ ss e7 in
       (there, (not_empty_if_given img (get_or (starts t) k 0) _ ss e14).0)
 
   pub first_not_empty : slot_empty (final s img v (enable k)) (get_or (starts t) k 0) ≡ false

@@ -8,7 +8,7 @@ use native.Mathlib.Omega.{arith}
 use lib.Dec.{eqb}
 use borrow.Author.Tests.{eqb-true, eq-eqb}
 use Rattle.rules.specs.Lists.{same}
-use Rattle.rules.specs.Answers.{Answer, refused, given, numbered, unless, ◌>>=◌}
+use Rattle.rules.specs.Answers.{Answer, refused, given, unless, ◌>>=◌}
 use Rattle.rules.specs.declared.Refusal.{Refusal}
 
 -- ---- tests
@@ -56,18 +56,18 @@ same_of xs ys e = subst (λ (l : List ℕ). same xs l ≡ true) e (same_refl xs)
 
 -- ---- answers
 
-pub given_inj : {A : Type 0} (x y : A) → given x ≡ given y → x ≡ y
+pub given_inj : {A : Type 0} (x y : A) → ◌≡◌ {A = Answer A} (given x) (given y) → x ≡ y
 given_inj x y h = cc
 
 pub refused_given : {A : Type 0} (why : Refusal) (x : A) → refused why ≡ given x → ⊥
 refused_given why x h = let z : ◌≡◌ {A = ℕ} 0 1 = cc in omega arith
 
-pub unless-given : {A : Type 0} (n : ℕ) (t : Bool) (a : Answer A) (x : A)
-    → unless n t a ≡ given x
+pub unless-given : {A : Type 0} (why : Refusal) (t : Bool) (a : Answer A) (x : A)
+    → unless why t a ≡ given x
     → (t ≡ true) × (a ≡ given x)
 unfolding unless
-unless-given n true a x h = (refl, h)
-unless-given n false a x h = absurd (refused_given (numbered n) x h)
+unless-given why true a x h = (refl, h)
+unless-given why false a x h = absurd (refused_given why x h)
 
 pub bind_given : {A B : Type 0} (a : Answer A) (f : A → Answer B) (x : B)
     → a >>= f ≡ given x

@@ -3,7 +3,7 @@ use mathlib.Core.Path.{◌≡◌, refl, sym, ap, ◌∙◌, subst}
 use mathlib.Core.Bool.{true, false, cond}
 use mathlib.Core.Logic.{◌⊎◌, inl, inr}
 use mathlib.Core.List.{List, [], ◌∷◌, map}
-use mathlib.Core.Option.{Option, none, some}
+use Rattle.std.specs.Prelude.{Option, None, Some}
 use Prim.Native.Nat.{ℕ, zero, suc, ◌<◌}
 use native.Mathlib.Omega.{arith}
 use lib.Dec.{eqb}
@@ -16,16 +16,16 @@ use Rattle.rules.proofs.Order.Ordering.{slot_named, all_ones_name_none, zeros_na
 
 -- ---- which slot starts at a value
 
-some_is : (a b : ℕ) → some a ≡ some b → a ≡ b
+some_is : (a b : ℕ) → Some a ≡ Some b → a ≡ b
 some_is a b h = cc
 
-none_some : (k : ℕ) → none ≡ some k → ⊥
+none_some : (k : ℕ) → None ≡ Some k → ⊥
 none_some k h = let z : ◌≡◌ {A = ℕ} 0 1 = cc in omega arith
 
 abbrev Starting : List ℕ → ℕ → ℕ → Type 0
 Starting starts v k = (k < length starts) × (get_or starts k 0 ≡ v)
 
-pub slot_at-some : (starts : List ℕ) (v k : ℕ) → slot_at starts v ≡ some k → Starting starts v k
+pub slot_at-some : (starts : List ℕ) (v k : ℕ) → slot_at starts v ≡ Some k → Starting starts v k
 unfolding slot_at one_more
 slot_at-some [] v k h = absurd (none_some k h)
 slot_at-some (a ∷ starts) v k h =
@@ -33,16 +33,16 @@ slot_at-some (a ∷ starts) v k h =
     (λ t. subst (Starting (a ∷ starts) v) (some_is 0 k (rw t at h)) (omega arith, eqb-true a v t))
     (λ t. later (slot_at starts v) (slot_at-some starts v) (rw t at h))
   where
-    later : (o : Option ℕ) → ((j : ℕ) → o ≡ some j → Starting starts v j) → one_more o ≡ some k
+    later : (o : Option ℕ) → ((j : ℕ) → o ≡ Some j → Starting starts v j) → one_more o ≡ Some k
         → Starting (a ∷ starts) v k
-    later none rest e = absurd (none_some k e)
-    later (some j) rest e =
+    later None rest e = absurd (none_some k e)
+    later (Some j) rest e =
         let (p, q) = rest j refl in
         subst (Starting (a ∷ starts) v) (some_is (suc j) k e) (omega arith, q)
 
 -- a slot that a value names starts at it
 pub named_starts : (starts : List ℕ) (v k : ℕ)
-    → slot_named starts v ≡ some k
+    → slot_named starts v ≡ Some k
     → (k < length starts) × (get_or starts k 0 ≡ v)
 named_starts starts v k e =
     by_cases (all_ones v)
@@ -54,12 +54,12 @@ named_starts starts v k e =
 -- a value that no slot starts at names none
 pub names_none : (starts : List ℕ) (v : ℕ)
     → ((k : ℕ) → k < length starts → get_or starts k 0 ≡ v → ⊥)
-    → slot_named starts v ≡ none
+    → slot_named starts v ≡ None
 names_none starts v h = split (slot_named starts v) refl
   where
-    split : (o : Option ℕ) → slot_named starts v ≡ o → o ≡ none
-    split none e = refl
-    split (some k) e = let (p, q) = named_starts starts v k e in absurd (h k p q)
+    split : (o : Option ℕ) → slot_named starts v ≡ o → o ≡ None
+    split None e = refl
+    split (Some k) e = let (p, q) = named_starts starts v k e in absurd (h k p q)
 
 -- ---- one place with another value that names the same slot or none
 
@@ -81,17 +81,17 @@ without_absent k (x ∷ o) h =
     rw (p, without_absent k o q)
 
 add_last_other : (k : ℕ) (x : Option ℕ) (o : List ℕ)
-    → (x ≡ some k → ⊥)
+    → (x ≡ Some k → ⊥)
     → add_last x (without k o) ≡ without k (add_last x o)
 unfolding add_last
-add_last_other k none o h = refl
-add_last_other k (some j) o h =
-    let n : eqb k j ≡ false = ne_eqb k j (λ e. h (ap {B = Option ℕ} some (sym e))) in
+add_last_other k None o h = refl
+add_last_other k (Some j) o h =
+    let n : eqb k j ≡ false = ne_eqb k j (λ e. h (ap {B = Option ℕ} Some (sym e))) in
     by_cases (member j o)
     (λ m. rw (member_of_without k j o n, m))
     (λ m. rw (member_of_without k j o n, m, without_appended_other k j o n))
 
-add_last_same : (k : ℕ) (o : List ℕ) → without k o ≡ without k (add_last (some k) o)
+add_last_same : (k : ℕ) (o : List ℕ) → without k o ≡ without k (add_last (Some k) o)
 unfolding add_last
 add_last_same k o = by_cases (member k o) (λ m. rw m) (λ m. rw (m, without_appended_same k o))
 
@@ -100,7 +100,7 @@ module _ (starts : List ℕ) (k : ℕ) where
   abbrev pub Clearing : ℕ → ℕ → Type 0
   Clearing v w =
       ((gives k (judged starts v) ≡ false) × (w ≡ v))
-      ⊎ ((gives k (judged starts v) ≡ true) × (slot_named starts w ≡ none))
+      ⊎ ((gives k (judged starts v) ≡ true) × (slot_named starts w ≡ None))
 
   -- some of the lowest places cleared, the others as they were
   abbrev pub Cleared : List ℕ → List ℕ → Type 0
@@ -113,7 +113,7 @@ module _ (starts : List ℕ) (k : ℕ) where
   none_cleared [] = refl
   none_cleared (v ∷ vs) = inl refl
 
-  names_other : (v : ℕ) → gives k (judged starts v) ≡ false → slot_named starts v ≡ some k → ⊥
+  names_other : (v : ℕ) → gives k (judged starts v) ≡ false → slot_named starts v ≡ Some k → ⊥
   names_other v f e = clash (gives k (judged starts v)) (naming_gives starts k v e) f
 
   abbrev OldOrNew : List ℕ → List ℕ → Type 0

@@ -2,7 +2,7 @@
 use mathlib.Core.Path.{◌≡◌, refl, sym, ◌∙◌, subst}
 use mathlib.Core.Bool.{false}
 use mathlib.Core.List.{List, [], ◌∷◌, ◌++◌}
-use mathlib.Core.Option.{Option, none, some}
+use Rattle.std.specs.Prelude.{Option, None, Some}
 use Prim.Native.Nat.{ℕ, zero, suc, ◌≤◌, ◌<◌}
 use native.Mathlib.Nat.{not-suc-le-zero}
 use native.Mathlib.Omega.{arith}
@@ -71,8 +71,8 @@ once_order starts (v ∷ vs) = added (slot_named starts v) refl (once_order star
         → slot_named starts v ≡ x
         → Once (length starts) (order starts vs)
         → Once (length starts) (add_last x (order starts vs))
-    added none e h = unfold add_last in h
-    added (some k) e h = unfold add_last in by_cases (member k (order starts vs))
+    added None e h = unfold add_last in h
+    added (Some k) e h = unfold add_last in by_cases (member k (order starts vs))
         (λ t. rw t h)
         (λ t. rw t (once_appended (length starts) k (order starts vs) (named_starts starts v k e).0 t h))
 
@@ -85,8 +85,8 @@ order-length starts (v ∷ vs) = added (slot_named starts v) (order-length start
     added : (x : Option ℕ)
         → length (order starts vs) ≤ length vs
         → length (add_last x (order starts vs)) ≤ suc (length vs)
-    added none h = unfold add_last in omega arith
-    added (some k) h = unfold add_last in by_cases (member k (order starts vs))
+    added None h = unfold add_last in omega arith
+    added (Some k) h = unfold add_last in by_cases (member k (order starts vs))
         (λ t. rw t (omega arith))
         (λ t. rw (t, length-append (order starts vs) (k ∷ [])) (omega arith))
 

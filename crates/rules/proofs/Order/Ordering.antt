@@ -2,7 +2,7 @@
 use mathlib.Core.Path.{◌≡◌, refl, sym, ap, ◌∙◌}
 use mathlib.Core.Bool.{Bool, true, false, cond}
 use mathlib.Core.List.{List, [], ◌∷◌, ◌++◌}
-use mathlib.Core.Option.{Option, none, some}
+use Rattle.std.specs.Prelude.{Option, None, Some}
 use Prim.Native.Nat.{ℕ, zero, suc, ◌<◌}
 use native.Mathlib.Nat.{le_of_suc-le-suc, not-suc-le-zero}
 use native.Mathlib.Omega.{arith}
@@ -23,19 +23,19 @@ slot_named starts v = slot_given (judged starts v)
 
 given_live : (v : ℕ) (test : Bool) (o : Option ℕ) → slot_given (live_or (cond test PartWritten (Stray v)) o) ≡ o
 unfolding slot_given live_or
-given_live v true none = refl
-given_live v false none = refl
-given_live v test (some k) = refl
+given_live v true None = refl
+given_live v false None = refl
+given_live v test (Some k) = refl
 
-pub all_ones_name_none : (starts : List ℕ) (v : ℕ) → all_ones v ≡ true → slot_named starts v ≡ none
+pub all_ones_name_none : (starts : List ℕ) (v : ℕ) → all_ones v ≡ true → slot_named starts v ≡ None
 unfolding slot_given judged
 all_ones_name_none starts v t = rw t
 
-pub zeros_name_none : (starts : List ℕ) (v : ℕ) → all_ones v ≡ false → all_zeros v ≡ true → slot_named starts v ≡ none
+pub zeros_name_none : (starts : List ℕ) (v : ℕ) → all_ones v ≡ false → all_zeros v ≡ true → slot_named starts v ≡ None
 unfolding slot_given judged
 zeros_name_none starts v f t = rw (f, t)
 
-pub zero_names_none : (starts : List ℕ) → slot_named starts 0 ≡ none
+pub zero_names_none : (starts : List ℕ) → slot_named starts 0 ≡ None
 unfolding all_ones all_zeros
 zero_names_none starts = zeros_name_none starts 0 refl refl
 
@@ -46,33 +46,33 @@ pub other_values_name : (starts : List ℕ) (v : ℕ)
 unfolding judged
 other_values_name starts v f z = rw (f, z) (given_live v (top_byte_erased v) (slot_at starts v))
 
-pub erased_names_none : (starts : List ℕ) (v : ℕ) → is_erased (judged starts v) ≡ true → slot_named starts v ≡ none
+pub erased_names_none : (starts : List ℕ) (v : ℕ) → is_erased (judged starts v) ≡ true → slot_named starts v ≡ None
 unfolding is_erased slot_given
 erased_names_none starts v = of (judged starts v)
   where
-    of : (p : Place) → is_erased p ≡ true → slot_given p ≡ none
+    of : (p : Place) → is_erased p ≡ true → slot_given p ≡ None
     of Erased t = refl
     of Spent t = refl
     of (Live s) t = absurd (clash false t refl)
     of PartWritten t = refl
     of (Stray w) t = refl
 
-pub giving_names : (starts : List ℕ) (k v : ℕ) → gives k (judged starts v) ≡ true → slot_named starts v ≡ some k
+pub giving_names : (starts : List ℕ) (k v : ℕ) → gives k (judged starts v) ≡ true → slot_named starts v ≡ Some k
 unfolding gives slot_given
 giving_names starts k v = of (judged starts v)
   where
-    of : (p : Place) → gives k p ≡ true → slot_given p ≡ some k
+    of : (p : Place) → gives k p ≡ true → slot_given p ≡ Some k
     of Erased t = absurd (clash false t refl)
     of Spent t = absurd (clash false t refl)
-    of (Live s) t = ap {B = Option ℕ} some (sym (eqb-true k s.0 t))
+    of (Live s) t = ap {B = Option ℕ} Some (sym (eqb-true k s.0 t))
     of PartWritten t = absurd (clash false t refl)
     of (Stray w) t = absurd (clash false t refl)
 
-pub naming_gives : (starts : List ℕ) (k v : ℕ) → slot_named starts v ≡ some k → gives k (judged starts v) ≡ true
+pub naming_gives : (starts : List ℕ) (k v : ℕ) → slot_named starts v ≡ Some k → gives k (judged starts v) ≡ true
 unfolding gives slot_given
 naming_gives starts k v = of (judged starts v)
   where
-    of : (p : Place) → slot_given p ≡ some k → gives k p ≡ true
+    of : (p : Place) → slot_given p ≡ Some k → gives k p ≡ true
     of Erased e = absurd (let z : ◌≡◌ {A = ℕ} 0 1 = cc in omega arith)
     of Spent e = absurd (let z : ◌≡◌ {A = ℕ} 0 1 = cc in omega arith)
     of (Live s) e = let same : k ≡ s.0 = cc in eq-eqb k s.0 same
@@ -88,9 +88,9 @@ erased_by_value starts v =
     (λ t. by_cases (all_zeros v) (λ z. rw (t, z)) (λ z. rw (t, z, used (top_byte_erased v) (slot_at starts v))))
   where
     used : (test : Bool) (o : Option ℕ) → is_erased (live_or (cond test PartWritten (Stray v)) o) ≡ false
-    used true none = unfold live_or is_erased in refl
-    used false none = unfold live_or is_erased in refl
-    used test (some k) = unfold live_or is_erased in refl
+    used true None = unfold live_or is_erased in refl
+    used false None = unfold live_or is_erased in refl
+    used test (Some k) = unfold live_or is_erased in refl
 
 -- ---- a number left out of a list
 
@@ -129,8 +129,8 @@ member_of_without k j (x ∷ o) h =
 add_last_after_first : (k : ℕ) (x : Option ℕ) (o : List ℕ)
     → add_last x (k ∷ without k o) ≡ k ∷ without k (add_last x o)
 unfolding add_last member
-add_last_after_first k none o = refl
-add_last_after_first k (some j) o =
+add_last_after_first k None o = refl
+add_last_after_first k (Some j) o =
     by_cases (eqb k j)
     (λ t. by_cases (member j o)
     (λ m. rw (m, ← eqb-true k j t, eq-eqb k k refl))
@@ -164,7 +164,7 @@ module _ (starts : List ℕ) where
   pub order_enabled : (vs : List ℕ) (u a k : ℕ)
       → free_place starts vs ≡ u
       → u < length vs
-      → slot_named starts a ≡ some k
+      → slot_named starts a ≡ Some k
       → order starts (set vs u a) ≡ k ∷ without k (order starts vs)
   unfolding order free_place add_last member without
   order_enabled [] u a k h l e = absurd (not-suc-le-zero l)

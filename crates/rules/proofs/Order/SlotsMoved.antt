@@ -4,7 +4,7 @@ use mathlib.Core.Path.{◌≡◌, refl, sym, ap, ap₂, ◌∙◌, subst}
 use mathlib.Core.Bool.{true, false, ◌||◌}
 use mathlib.Core.Logic.{◌⊎◌, inl, inr}
 use mathlib.Core.List.{List, [], ◌∷◌, ◌++◌, map}
-use mathlib.Core.Option.{Option, none, some}
+use Rattle.std.specs.Prelude.{Option, None, Some}
 use Prim.Native.Nat.{ℕ, zero, suc, ◌<◌}
 use native.Mathlib.Nat.{le_of_suc-le-suc, not-suc-le-zero}
 use native.Mathlib.Omega.{arith}
@@ -18,10 +18,10 @@ use Rattle.rules.proofs.Lists.Tests.{by_cases, clash, or_false}
 use Rattle.rules.proofs.Lists.OneMore.{left_out}
 use Rattle.rules.proofs.Order.Ordering.{slot_named, all_ones_name_none, zeros_name_none, other_values_name}
 
-none_some : (k : ℕ) → ◌≡◌ {A = Option ℕ} none (some k) → ⊥
+none_some : (k : ℕ) → ◌≡◌ {A = Option ℕ} None (Some k) → ⊥
 none_some k q = let z : ◌≡◌ {A = ℕ} 0 1 = cc in omega arith
 
-some-some : (j k : ℕ) → ◌≡◌ {A = Option ℕ} (some j) (some k) → j ≡ k
+some-some : (j k : ℕ) → ◌≡◌ {A = Option ℕ} (Some j) (Some k) → j ≡ k
 some-some j k q = cc
 
 -- ---- a slot more
@@ -33,7 +33,7 @@ slot_at_added (x ∷ xs) a v h = rw (slot_at_added xs a v h)
 
 -- a value names no slot, whatever the starts, or the slot that starts there
 names_none_or_there : (v : ℕ)
-    → ((xs : List ℕ) → slot_named xs v ≡ none) ⊎ ((xs : List ℕ) → slot_named xs v ≡ slot_at xs v)
+    → ((xs : List ℕ) → slot_named xs v ≡ None) ⊎ ((xs : List ℕ) → slot_named xs v ≡ slot_at xs v)
 names_none_or_there v =
     by_cases (all_ones v)
     (λ t. inl (λ xs. all_ones_name_none xs v t))
@@ -45,7 +45,7 @@ names_none_or_there v =
 named_alike : (xs ys : List ℕ) (v : ℕ) → slot_at ys v ≡ slot_at xs v → slot_named ys v ≡ slot_named xs v
 named_alike xs ys v e = of (names_none_or_there v)
   where
-    of : ((xs : List ℕ) → slot_named xs v ≡ none) ⊎ ((xs : List ℕ) → slot_named xs v ≡ slot_at xs v)
+    of : ((xs : List ℕ) → slot_named xs v ≡ None) ⊎ ((xs : List ℕ) → slot_named xs v ≡ slot_at xs v)
         → slot_named ys v ≡ slot_named xs v
     of (inl none_named) = none_named ys ∙ sym (none_named xs)
     of (inr there) = there ys ∙ e ∙ sym (there xs)
@@ -109,11 +109,11 @@ absent_before_last k j (x ∷ o) h =
 -- ---- a slot less
 
 abbrev slot_lowered : ℕ → Option ℕ → Option ℕ
-slot_lowered k none = none
-slot_lowered k (some j) = some (lowered k j)
+slot_lowered k None = None
+slot_lowered k (Some j) = Some (lowered k j)
 
 slot_at_without : (xs : List ℕ) (k v : ℕ)
-    → (slot_at xs v ≡ some k → ⊥)
+    → (slot_at xs v ≡ Some k → ⊥)
     → k < length xs
     → slot_at (left_out k xs) v ≡ slot_lowered k (slot_at xs v)
 unfolding slot_at one_more
@@ -122,25 +122,25 @@ slot_at_without (x ∷ xs) zero v h l =
     by_cases (eqb x v) (λ t. absurd (h (rw t))) (λ t. rw t (shifted (slot_at xs v)))
   where
     shifted : (o : Option ℕ) → o ≡ slot_lowered 0 (one_more o)
-    shifted none = refl
-    shifted (some j) =
-        ap {B = Option ℕ} some (sym (unfold lowered in rw (lt-ltb 0 (suc j) (omega arith)) (omega arith)))
+    shifted None = refl
+    shifted (Some j) =
+        ap {B = Option ℕ} Some (sym (unfold lowered in rw (lt-ltb 0 (suc j) (omega arith)) (omega arith)))
 slot_at_without (x ∷ xs) (suc k) v h l =
     by_cases (eqb x v)
-    (λ t. rw t (ap {B = Option ℕ} some (sym (unfold lowered in rw (le-ltb (suc k) 0 (omega arith))))))
+    (λ t. rw t (ap {B = Option ℕ} Some (sym (unfold lowered in rw (le-ltb (suc k) 0 (omega arith))))))
     (λ t. rw (t, slot_at_without xs k v (λ e. h (rw (t, e))) (le_of_suc-le-suc l)) (deeper (slot_at xs v)))
   where
     deeper : (o : Option ℕ) → one_more (slot_lowered k o) ≡ slot_lowered (suc k) (one_more o)
-    deeper none = refl
-    deeper (some j) = ap {B = Option ℕ} some (sym (lowered-suc k j))
+    deeper None = refl
+    deeper (Some j) = ap {B = Option ℕ} Some (sym (lowered-suc k j))
 
 slot_named_without : (xs : List ℕ) (k v : ℕ)
-    → (slot_named xs v ≡ some k → ⊥)
+    → (slot_named xs v ≡ Some k → ⊥)
     → k < length xs
     → slot_named (left_out k xs) v ≡ slot_lowered k (slot_named xs v)
 slot_named_without xs k v h l = of (names_none_or_there v)
   where
-    of : ((xs : List ℕ) → slot_named xs v ≡ none) ⊎ ((xs : List ℕ) → slot_named xs v ≡ slot_at xs v)
+    of : ((xs : List ℕ) → slot_named xs v ≡ None) ⊎ ((xs : List ℕ) → slot_named xs v ≡ slot_at xs v)
         → slot_named (left_out k xs) v ≡ slot_lowered k (slot_named xs v)
     of (inl none_named) = none_named (left_out k xs) ∙ sym (ap (slot_lowered k) (none_named xs))
     of (inr there) =
@@ -149,10 +149,10 @@ slot_named_without xs k v h l = of (names_none_or_there v)
 -- a lower place comes after the others, in the order with the numbers lowered too
 add_last-lowered : (k : ℕ) (x : Option ℕ) (o : List ℕ)
     → member k (add_last x o) ≡ false
-    → (member k o ≡ false) × ((x ≡ some k → ⊥) × (add_last (slot_lowered k x) (map (lowered k) o) ≡ map (lowered k) (add_last x o)))
+    → (member k o ≡ false) × ((x ≡ Some k → ⊥) × (add_last (slot_lowered k x) (map (lowered k) o) ≡ map (lowered k) (add_last x o)))
 unfolding add_last
-add_last-lowered k none o h = (h, (none_some k, refl))
-add_last-lowered k (some j) o h =
+add_last-lowered k None o h = (h, (none_some k, refl))
+add_last-lowered k (Some j) o h =
     by_cases (member j o)
     (λ t. let absent : member k o ≡ false = rw t at h in
     let other : j ≡ k → ⊥ = λ q. clash (member k o) (subst (λ (z : ℕ). member z o ≡ true) q t) absent in

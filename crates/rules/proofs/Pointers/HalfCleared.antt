@@ -3,7 +3,7 @@ use mathlib.Core.Path.{◌≡◌, sym, ap₂, ◌∙◌}
 use mathlib.Core.Bool.{Bool, true, false, ◌||◌}
 use mathlib.Core.Logic.{◌⊎◌, inl, inr}
 use mathlib.Core.List.{List, [], ◌∷◌}
-use mathlib.Core.Option.{none}
+use Rattle.std.specs.Prelude.{None}
 use Prim.Native.Nat.{ℕ, zero, suc, ◌+◌, ◌*◌, ◌/◌, ◌≤◌, ◌<◌}
 use native.Mathlib.Nat.{not-suc-le-zero}
 use native.Mathlib.Decide.{dec_le, ℕ_discrete}
@@ -21,7 +21,7 @@ use Rattle.rules.proofs.Table.SlotStarts.{SlotStarts}
 use Rattle.rules.proofs.Lists.Words.{number, number_same}
 
 module _ (starts : List ℕ) (right : SlotStarts starts) where
-  pub high_names_none : (v : ℕ) → longest ≤ v → slot_named starts v ≡ none
+  pub high_names_none : (v : ℕ) → longest ≤ v → slot_named starts v ≡ None
   high_names_none v h = names_none starts v (λ k l e. omega (arith, right.inside k l))
 
 -- ---- a value that no other slot starts at
@@ -34,7 +34,7 @@ member_at (x ∷ xs) (suc k) v h e = by_cases (eqb v x) (λ t. rw t) (λ t. rw t
 
 -- it is the start itself, or it names no slot
 abbrev pub Harmless : List ℕ → ℕ → ℕ → Type 0
-Harmless starts a v = (v ≡ a) ⊎ (slot_named starts v ≡ none)
+Harmless starts a v = (v ≡ a) ⊎ (slot_named starts v ≡ None)
 
 no_other_harmless : (starts : List ℕ) (a v : ℕ) → member v (without a starts) ≡ false → Harmless starts a v
 no_other_harmless starts a v h = split (ℕ_discrete v a)

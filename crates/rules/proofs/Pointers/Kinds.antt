@@ -4,7 +4,7 @@
 use mathlib.Core.Path.{◌≡◌, refl}
 use mathlib.Core.Bool.{false}
 use mathlib.Core.List.{List}
-use mathlib.Core.Option.{some}
+use Rattle.std.specs.Prelude.{Some}
 use Prim.Native.Nat.{ℕ, ◌/◌, ◌<◌}
 use native.Mathlib.Omega.{arith}
 use borrow.Author.Tests.{ne_eqb}
@@ -22,7 +22,7 @@ no_other_kind v above inside = (
   ne_eqb (v / 0x100000000000000) 0xFF (λ e. omega arith),
 )
 
-pub only_live : (starts : List ℕ) → SlotStarts starts → (v k : ℕ) → slot_at starts v ≡ some k
+pub only_live : (starts : List ℕ) → SlotStarts starts → (v k : ℕ) → slot_at starts v ≡ Some k
     → (all_ones v ≡ false) × (all_zeros v ≡ false) × (top_byte_erased v ≡ false)
 only_live starts right v k e =
     let (there, start) = slot_at-some starts v k e in

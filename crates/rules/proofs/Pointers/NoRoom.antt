@@ -6,7 +6,7 @@
 use mathlib.Core.Path.{◌≡◌, refl, sym, ap, ◌∙◌}
 use mathlib.Core.Bool.{Bool, true, false, ◌||◌}
 use mathlib.Core.List.{List, [], ◌∷◌, ◌++◌}
-use mathlib.Core.Option.{Option, none, some}
+use Rattle.std.specs.Prelude.{Option, None, Some}
 use Prim.Native.Nat.{ℕ, zero, suc, ◌≤◌, ◌<◌}
 use native.Mathlib.Omega.{arith}
 use lib.Dec.{eqb}
@@ -35,13 +35,13 @@ member_appended j i (x ∷ o) =
 
 -- the slot is one that a place gives
 abbrev given_by : ℕ → Option ℕ → Bool
-given_by j none = false
-given_by j (some i) = eqb j i
+given_by j None = false
+given_by j (Some i) = eqb j i
 
 member_added : (j : ℕ) (x : Option ℕ) (o : List ℕ) → member j (add_last x o) ≡ given_by j x || member j o
 unfolding add_last
-member_added j none o = refl
-member_added j (some i) o =
+member_added j None o = refl
+member_added j (Some i) o =
     by_cases (member i o)
     (λ t. by_cases (eqb j i)
     (λ u. rw (t, u) (ap (λ (y : ℕ). member y o) (eqb-true j i u) ∙ t))
@@ -72,7 +72,7 @@ order_names starts j (v ∷ vs) =
 abbrev pub EachItsOwn : List ℕ → List ℕ → Type 0
 EachItsOwn starts [] = Unit {0}
 EachItsOwn starts (v ∷ vs) =
-    ((j : ℕ) × (slot_named starts v ≡ some j) × (named_in starts j vs ≡ false)) × EachItsOwn starts vs
+    ((j : ℕ) × (slot_named starts v ≡ Some j) × (named_in starts j vs ≡ false)) × EachItsOwn starts vs
 
 full_order : (starts vs : List ℕ) → length vs ≤ length (order starts vs) → EachItsOwn starts vs
 unfolding order
@@ -84,8 +84,8 @@ full_order starts (v ∷ vs) h = split (slot_named starts v) refl h (full_order 
         → suc (length vs) ≤ length (add_last x (order starts vs))
         → (length vs ≤ length (order starts vs) → EachItsOwn starts vs)
         → EachItsOwn starts (v ∷ vs)
-    split none e l higher = absurd (unfold add_last in omega (arith, order-length starts vs))
-    split (some j) e l higher = unfold add_last in
+    split None e l higher = absurd (unfold add_last in omega (arith, order-length starts vs))
+    split (Some j) e l higher = unfold add_last in
         by_cases (member j (order starts vs))
         (λ t. absurd (let m = rw t at l in omega (arith, order-length starts vs)))
         (λ t. (
@@ -123,13 +123,13 @@ order_in_used starts (v ∷ vs) =
   where
     erased : (n : ℕ)
         → length (order starts vs) ≤ n
-        → length (add_last none (order starts vs)) ≤ below true n
+        → length (add_last None (order starts vs)) ≤ below true n
     erased zero h = unfold add_last below in h
     erased (suc n) h = unfold add_last below in omega arith
 
     one_more : (x : Option ℕ) → length (add_last x (order starts vs)) ≤ suc (length (order starts vs))
-    one_more none = unfold add_last in omega arith
-    one_more (some j) = unfold add_last in by_cases (member j (order starts vs))
+    one_more None = unfold add_last in omega arith
+    one_more (Some j) = unfold add_last in by_cases (member j (order starts vs))
         (λ t. rw t (omega arith))
         (λ t. rw (t, length-append (order starts vs) (j ∷ [])) (omega arith))
 

@@ -7,7 +7,7 @@ use Prim.Native.Nat.{ℕ}
 use lib.Dec.{eqb}
 use Rattle.rules.specs.Lists.{same}
 use Rattle.rules.specs.Bytes.{block}
-use Rattle.rules.specs.Answers.{refused, numbered}
+use Rattle.rules.specs.Answers.{refused}
 use Rattle.rules.specs.Pointers.{place_offset, place_count, pointers_stand}
 use Rattle.rules.specs.Copies.{pair_agrees, tables_agree, pointers_agree, agree_by}
 use Rattle.rules.specs.Steps.{rewrite}
@@ -16,6 +16,7 @@ use Rattle.rules.specs.declared.Setting.{Setting}
 use Rattle.rules.specs.declared.View.{View}
 use Rattle.rules.proofs.Lists.Tests.{by_cases, same_true}
 use Rattle.rules.proofs.Claim.RefusalNumbers.{refused_6}
+use Rattle.rules.specs.declared.Refusal.TheVariants.{CopiesDiffer}
 
 module _ (s : Setting) (img : List ℕ) (v : View) where
   abbrev p0 : List ℕ
@@ -45,7 +46,7 @@ module _ (s : Setting) (img : List ℕ) (v : View) where
     not_agreed = rw shapes_disagree (by_cases (tables_agree s img) (λ t. rw t) (λ t. rw t))
 
     -- every command but repair
-    pub shapes_refused : (c : Command) → (c ≡ repair → ⊥) → job s img v c ≡ refused (numbered 6)
+    pub shapes_refused : (c : Command) → (c ≡ repair → ⊥) → job s img v c ≡ refused CopiesDiffer
     shapes_refused = refused_6 s img v not_agreed
 
     pub rewritten_from_copy_read :

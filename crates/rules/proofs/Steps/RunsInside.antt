@@ -16,6 +16,7 @@ use Rattle.rules.specs.Steps.{steps}
 use Rattle.rules.specs.Cuts.{Progress, run, inside, may_run, runs}
 use Rattle.rules.proofs.Steps.Cutting.{cut_all}
 use Rattle.rules.proofs.Steps.Frame.{StepsWithin, cut_only}
+use Rattle.rules.specs.declared.Refusal.TheVariants.{NoStepsLeft}
 
 -- ---- a run as its caller meets it
 
@@ -79,7 +80,7 @@ module _ (g len : ℕ) where
   -- only refusal 11 is given
   pub only_refused_11 : (p : Progress)
       → Inside g len p
-      → may_run g len p ≡ unless 11 (ltb 0 (length p.left)) (given p)
+      → may_run g len p ≡ unless NoStepsLeft (ltb 0 (length p.left)) (given p)
   unfolding may_run
   only_refused_11 p h =
       rw (h.same_length, eq-eqb len len refl, all-inside g len p.left h.within) (unfold unless in refl)
@@ -94,7 +95,7 @@ module _ (g len : ℕ) where
     where
       split : (l : List Step)
           → p.left ≡ l
-          → answered g n p (unless 11 (ltb 0 (length p.left)) (given p)) ≡ run g n p
+          → answered g n p (unless NoStepsLeft (ltb 0 (length p.left)) (given p)) ≡ run g n p
       split [] e = rw e (unfold unless in sym (run_of_none n p.image))
       split (s ∷ l) e = rw (e, lt-ltb 0 (suc (length l)) (omega arith)) (unfold unless in refl)
 
@@ -106,5 +107,5 @@ module _ (g len : ℕ) where
 
   pub refused_11_along : (ns : List ℕ) (p : Progress)
       → Inside g len p
-      → may_run g len (runs g ns p) ≡ unless 11 (ltb 0 (length (runs g ns p).left)) (given (runs g ns p))
+      → may_run g len (runs g ns p) ≡ unless NoStepsLeft (ltb 0 (length (runs g ns p).left)) (given (runs g ns p))
   refused_11_along ns p h = only_refused_11 (runs g ns p) (runs_inside ns p h)

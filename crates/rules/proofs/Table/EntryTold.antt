@@ -7,42 +7,55 @@ use mathlib.Core.List.{List, [], ◌∷◌}
 use Prim.Native.Nat.{ℕ, ◌≤◌, ◌<◌}
 use native.Mathlib.Omega.{arith}
 use lib.ListN.{length, get_or}
-use Rattle.rules.specs.Lists.{member, all, any}
+use Rattle.rules.specs.Lists.{all, any}
 use Rattle.rules.specs.Bytes.{block}
-use Rattle.rules.specs.Answers.{Answer, refused, given, numbered, unless, ◌>>=◌, no_entry_number, broken}
-use Rattle.rules.specs.Copies.{copy_read, no_table, table_read, pointers_read, view_through, view}
+use Rattle.std.specs.Prelude.{Option, Some, None, is_some, cond, ◌||◌}
+use Rattle.rules.specs.Answers.{Answer, refused, given, unless, ◌>>=◌, no_entry_number, broken, no_fault, number_of}
+use Rattle.rules.specs.Copies.{copy_read, both_faults, no_table, table_read, pointers_read, view_through, view}
 use Rattle.rules.specs.Table.{Entry, entry_count, entries, name_right, names_differ, range_aligned, range_inside, ranges_apart}
 use Rattle.rules.specs.Table.{boot_info, spt0_name, spt1_name, six_names, has_name, no_entry, named, block_names, on_granules}
 use Rattle.rules.specs.Table.{six_named, boot_info_at_0, tables_as_told, blocks_on_granules, if_named, starts_at, boot_info_right, table_as_told, block_on_granules}
-use Rattle.rules.specs.Table.{table_stands, broken_unless, entries_fault, fault}
+use Rattle.rules.specs.Table.{magic_right, table_stands, broken_unless, entries_fault, fault}
 use Rattle.rules.specs.Table.{cpb0_of, cpb1_of}
 use Rattle.rules.specs.Pointers.{pointers_stand}
 use Rattle.rules.specs.declared.Setting.{Setting}
+use Rattle.rules.specs.declared.TableRule.{TableRule}
 use Rattle.rules.specs.declared.Fault.{Fault}
+use Rattle.rules.specs.declared.TableFaults.{TableFaults}
 use Rattle.rules.specs.declared.Refusal.{Refusal}
 use Rattle.rules.proofs.Lists.Tests.{by_cases, clash, and_true, both_true, refused_given}
 use Rattle.rules.proofs.Lists.Combinators.{all_at, all_weaker, first_passes, first_of_all}
 use Rattle.rules.proofs.Lists.FirstBroken.{failing_below, clash_below}
 use Rattle.rules.proofs.Table.Standing.{length-entries, named_there}
 use Rattle.rules.proofs.Table.Faults.{no_fault_stands}
+use Rattle.rules.specs.declared.Refusal.TheVariants.{BadLength, BadGranule, BadAddresses, NoPointers, NoMagic, NoTable}
+use Rattle.rules.specs.declared.TableRule.TheVariants.{HeaderRight, CountRight, NameRight, NamesDiffer, RangeAligned, RangeInside, RangesApart, SixNamed, BootInfoAtZero, TablesAsTold, BlocksOnGranules}
 
 -- ---- the entry told
 
--- no rule, and the rules about the whole table
-abbrev pub of_the_table : List ℕ
-of_the_table = 0 ∷ 1 ∷ 2 ∷ 8 ∷ []
-
-abbrev pub of_an_entry : List ℕ
-of_an_entry = 3 ∷ 4 ∷ 5 ∷ 6 ∷ 7 ∷ 9 ∷ 10 ∷ 11 ∷ []
+-- the rules about the whole table
+unfoldable pub of_the_table : TableRule → Bool
+of_the_table HeaderRight = true
+of_the_table CountRight = true
+of_the_table NameRight = false
+of_the_table NamesDiffer = false
+of_the_table RangeAligned = false
+of_the_table RangeInside = false
+of_the_table RangesApart = false
+of_the_table SixNamed = true
+of_the_table BootInfoAtZero = false
+of_the_table TablesAsTold = false
+of_the_table BlocksOnGranules = false
 
 -- what may be told of a table of n entries
-abbrev pub Told : ℕ → Fault → Type 0
-Told n f =
-    ((member f.rule of_the_table ≡ true) × (f.entry.0 ≡ no_entry_number))
-    ⊎ ((member f.rule of_an_entry ≡ true) × (f.entry.0 < n))
+abbrev pub Told : ℕ → Option Fault → Type 0
+Told n None = Unit {0}
+Told n (Some f) =
+    ((of_the_table f.rule ≡ true) × (f.entry.0 ≡ no_entry_number))
+    ⊎ ((of_the_table f.rule ≡ false) × (f.entry.0 < n))
 
 -- a rule that is broken is told so, and so is what the rules after it say
-told_unless : (n rule e : ℕ) (holds : Bool) (later : Fault)
+told_unless : (n : ℕ) (rule : TableRule) (e : ℕ) (holds : Bool) (later : Option Fault)
     → (holds ≡ false → Told n (broken rule e))
     → (holds ≡ true → Told n later)
     → Told n (broken_unless rule e holds later)
@@ -109,93 +122,127 @@ fails_with false whole f h = refl
 
 module _ (s : Setting) (len : ℕ) where
   entries_told : (es : List Entry) → Told (length es) (entries_fault s len es)
-  unfolding entries_fault member
+  unfolding entries_fault of_the_table
   entries_told es =
-      told_unless n 3 _ _ _ (λ h. inr (refl, failing_below name_right es h)) (λ _.
-      told_unless n 4 _ _ _ (λ h. inr (refl, clash_below names_differ es h)) (λ _.
-      told_unless n 5 _ _ _ (λ h. inr (refl, failing_below range_aligned es h)) (λ _.
-      told_unless n 6 _ _ _ (λ h. inr (refl, failing_below (range_inside len) es h)) (λ _.
-      told_unless n 7 _ _ _ (λ h. inr (refl, clash_below ranges_apart es h)) (λ _.
-      told_unless n 8 _ _ _ (λ _. inl (refl, refl)) (λ rule8.
-      told_unless n 9 _ _ _ (λ h. inr (refl, failing_below boot_info_right es (fails_with _ _ (rule_9 s es rule8) h))) (λ _.
-      told_unless n 10 _ _ _ (λ h. inr (refl, failing_below (table_as_told s) es (fails_with _ _ (rule_10 s es rule8) h))) (λ _.
-      told_unless n 11 _ _ _ (λ h. inr (refl, failing_below (block_on_granules s) es (fails_with _ _ (rule_11 s es rule8) h))) (λ _.
-      inl (refl, refl))))))))))
+      told_unless n NameRight _ _ _ (λ h. inr (refl, failing_below name_right es h)) (λ _.
+      told_unless n NamesDiffer _ _ _ (λ h. inr (refl, clash_below names_differ es h)) (λ _.
+      told_unless n RangeAligned _ _ _ (λ h. inr (refl, failing_below range_aligned es h)) (λ _.
+      told_unless n RangeInside _ _ _ (λ h. inr (refl, failing_below (range_inside len) es h)) (λ _.
+      told_unless n RangesApart _ _ _ (λ h. inr (refl, clash_below ranges_apart es h)) (λ _.
+      told_unless n SixNamed _ _ _ (λ _. inl (refl, refl)) (λ rule8.
+      told_unless n BootInfoAtZero _ _ _ (λ h. inr (refl, failing_below boot_info_right es (fails_with _ _ (rule_9 s es rule8) h))) (λ _.
+      told_unless n TablesAsTold _ _ _ (λ h. inr (refl, failing_below (table_as_told s) es (fails_with _ _ (rule_10 s es rule8) h))) (λ _.
+      told_unless n BlocksOnGranules _ _ _ (λ h. inr (refl, failing_below (block_on_granules s) es (fails_with _ _ (rule_11 s es rule8) h))) (λ _.
+      tt)))))))))
     where
       n : ℕ
       n = length es
 
   -- the theorem: of every table copy
   pub entry_told : (t : List ℕ) → Told (entry_count t) (fault s len t)
-  unfolding fault member
+  unfolding fault of_the_table
   entry_told t =
-      told_unless _ 1 _ _ _ (λ _. inl (refl, refl)) (λ _.
-      told_unless _ 2 _ _ _ (λ _. inl (refl, refl)) (λ _.
+      told_unless _ HeaderRight _ _ _ (λ _. inl (refl, refl)) (λ _.
+      told_unless _ CountRight _ _ _ (λ _. inl (refl, refl)) (λ _.
       rw length-entries at (entries_told (entries t))))
 
 -- ---- a rule is told of both copies
 
-no_rule_0 : (s : Setting) (len : ℕ) (t : List ℕ) → table_stands s len t ≡ false → 0 < (fault s len t).rule
-no_rule_0 s len t f =
-    let other : (fault s len t).rule ≡ 0 → ⊥ = λ z. clash (table_stands s len t) (no_fault_stands s len t z) f in
-    omega (arith, other)
+some_rule : (s : Setting) (len : ℕ) (t : List ℕ) → table_stands s len t ≡ false → is_some (fault s len t) ≡ true
+some_rule s len t f = there (fault s len t) (λ z. clash (table_stands s len t) (no_fault_stands s len t z) f)
+  where
+    there : (told : Option Fault) → (told ≡ no_fault → ⊥) → is_some told ≡ true
+    there None h = absurd (h refl)
+    there (Some told) h = refl
 
 refused_inj : {A : Type 0} (x y : Refusal) → ◌≡◌ {A = Answer A} (refused x) (refused y) → x ≡ y
 refused_inj x y h = cc
 
-same_number : {x y : Refusal} → x ≡ y → x.number ≡ y.number
-same_number h = rw h
+-- of a refusal 50 or 51: a rule of SPT0 and one of SPT1
+abbrev pub BothTold : Refusal → Type 0
+BothTold why = (faults : TableFaults)
+    → (why ≡ NoMagic faults) ⊎ (why ≡ NoTable faults)
+    → (is_some faults.fault0 ≡ true) × (is_some faults.fault1 ≡ true)
 
-rule_told : (s : Setting) (img : List ℕ) (why : Refusal)
-    → table_read s img ≡ refused why
-    → (0 < why.fault0.rule) × (0 < why.fault1.rule)
-unfolding table_read copy_read no_table
-rule_told s img why h =
-    by_cases (table_stands s (length img) (block img s.spt0))
-    (λ t. absurd (refused_given why s.spt0 (sym (rw t at h))))
-    (λ f0. by_cases (table_stands s (length img) (block img s.spt1))
-    (λ t. absurd (refused_given why s.spt1 (sym (rw (f0, t) at h))))
-    (λ f1.
-    let e : no_table s img ≡ why = refused_inj _ _ (rw (f0, f1) at h) in
-    rw (← e) (no_rule_0 s (length img) (block img s.spt0) f0, no_rule_0 s (length img) (block img s.spt1) f1)))
+same_magic : {x y : TableFaults} → NoMagic x ≡ NoMagic y → x ≡ y
+same_magic h = cc
 
--- a refusal of a higher number comes after the test
-passed : {A : Type 0} (n : ℕ) (t : Bool) (a : Answer A) (why : Refusal)
-    → n < why.number
-    → unless n t a ≡ refused why
-    → a ≡ refused why
-unfolding unless
-passed n true a why l h = h
-passed n false a why l h = absurd (omega (arith, l, same_number (refused_inj (numbered n) why h)))
+same_table : {x y : TableFaults} → NoTable x ≡ NoTable y → x ≡ y
+same_table h = cc
 
-module _ (s : Setting) (img : List ℕ) (why : Refusal) (high : 50 ≤ why.number) where
-  not_5 : (t : List ℕ) → pointers_read img t ≡ refused why → ⊥
+not_both : {x y : TableFaults} → NoMagic x ≡ NoTable y → ⊥
+not_both h = let z : ◌≡◌ {A = ℕ} 50 51 = ap number_of h in omega arith
+
+-- a refusal of another number tells of none
+low_told : (why : Refusal) → number_of why < 50 → BothTold why
+low_told why l faults (inl e) = absurd (omega (arith, l, ap number_of e))
+low_told why l faults (inr e) = absurd (omega (arith, l, ap number_of e))
+
+module _ (s : Setting) (img : List ℕ) where
+  faults_told : table_stands s (length img) (block img s.spt0) ≡ false
+      → table_stands s (length img) (block img s.spt1) ≡ false
+      → BothTold (no_table s img)
+  unfolding no_table both_faults
+  faults_told f0 f1 = by_magic (magic_right (block img s.spt0) || magic_right (block img s.spt1))
+    where
+      told : (is_some (both_faults s img).fault0 ≡ true) × (is_some (both_faults s img).fault1 ≡ true)
+      told = (some_rule s (length img) (block img s.spt0) f0, some_rule s (length img) (block img s.spt1) f1)
+
+      by_magic : (t : Bool) → BothTold (cond t (NoTable (both_faults s img)) (NoMagic (both_faults s img)))
+      by_magic true faults (inl e) = absurd (not_both (sym e))
+      by_magic true faults (inr e) = rw (← same_table e) told
+      by_magic false faults (inl e) = rw (← same_magic e) told
+      by_magic false faults (inr e) = absurd (not_both e)
+
+  rule_told : (why : Refusal) → table_read s img ≡ refused why → BothTold why
+  unfolding table_read copy_read
+  rule_told why h =
+      by_cases (table_stands s (length img) (block img s.spt0))
+      (λ t. absurd (refused_given why s.spt0 (sym (rw t at h))))
+      (λ f0. by_cases (table_stands s (length img) (block img s.spt1))
+      (λ t. absurd (refused_given why s.spt1 (sym (rw (f0, t) at h))))
+      (λ f1. rw (← refused_inj _ _ (rw (f0, f1) at h)) (faults_told f0 f1)))
+
+  -- what may be refused, asked in order
+  passed : {A : Type 0} (n : Refusal) (t : Bool) (a : Answer A) (why : Refusal)
+      → number_of n < 50
+      → (a ≡ refused why → BothTold why)
+      → unless n t a ≡ refused why
+      → BothTold why
+  unfolding unless
+  passed n true a why l f h = f h
+  passed n false a why l f h = rw (← refused_inj n why h) (low_told n l)
+
+  pointers_told : (t : List ℕ) (why : Refusal) → pointers_read img t ≡ refused why → BothTold why
   unfolding pointers_read copy_read
-  not_5 t h =
+  pointers_told t why h =
       by_cases (pointers_stand (block img (cpb0_of t)))
-      (λ u. refused_given why (cpb0_of t) (sym (rw u at h)))
+      (λ u. absurd (refused_given why (cpb0_of t) (sym (rw u at h))))
       (λ f. by_cases (pointers_stand (block img (cpb1_of t)))
-      (λ u. refused_given why (cpb1_of t) (sym (rw (f, u) at h)))
-      (λ g. omega (arith, high, same_number (refused_inj (numbered 5) why (rw (f, g) at h)))))
+      (λ u. absurd (refused_given why (cpb1_of t) (sym (rw (f, u) at h))))
+      (λ g. rw (← refused_inj NoPointers why (rw (f, g) at h)) (low_told NoPointers (omega arith))))
 
-  not_after_table : (at : ℕ) (p : Answer ℕ) → pointers_read img (block img at) ≡ p → view_through s img at ≡ refused why → ⊥
+  through_told : (at : ℕ) (why : Refusal) (p : Answer ℕ)
+      → pointers_read img (block img at) ≡ p
+      → view_through s img at ≡ refused why
+      → BothTold why
   unfolding view_through ◌>>=◌
-  not_after_table at (refused w) e h = not_5 (block img at) (e ∙ ap refused (refused_inj w why (rw e at h)))
-  not_after_table at (given x) e h = refused_given why _ (sym (rw e at h))
+  through_told at why (refused w) e h = pointers_told (block img at) why (e ∙ ap refused (refused_inj w why (rw e at h)))
+  through_told at why (given x) e h = absurd (refused_given why _ (sym (rw e at h)))
 
-  by_table : (t : Answer ℕ)
+  by_table : (t : Answer ℕ) (why : Refusal)
       → table_read s img ≡ t
       → table_read s img >>= view_through s img ≡ refused why
-      → (0 < why.fault0.rule) × (0 < why.fault1.rule)
+      → BothTold why
   unfolding ◌>>=◌
-  by_table (refused w) e h = rule_told s img why (e ∙ ap refused (refused_inj w why (rw e at h)))
-  by_table (given at) e h = absurd (not_after_table at (pointers_read img (block img at)) refl (rw e at h))
+  by_table (refused w) why e h = rule_told why (e ∙ ap refused (refused_inj w why (rw e at h)))
+  by_table (given at) why e h = through_told at why (pointers_read img (block img at)) refl (rw e at h)
 
   -- the theorem: of every flash that is refused 50 or 51
-  pub rules_told : view s img ≡ refused why → (0 < why.fault0.rule) × (0 < why.fault1.rule)
+  pub rules_told : (why : Refusal) → view s img ≡ refused why → BothTold why
   unfolding view
-  rules_told h =
-      let h = passed 1 _ _ why (omega (arith, high)) h in
-      let h = passed 2 _ _ why (omega (arith, high)) h in
-      let h = passed 3 _ _ why (omega (arith, high)) h in
-      by_table (table_read s img) refl h
+  rules_told why h =
+      passed BadLength _ _ why (omega arith)
+      (passed BadGranule _ _ why (omega arith)
+      (passed BadAddresses _ _ why (omega arith) (by_table (table_read s img) why refl)))
+      h

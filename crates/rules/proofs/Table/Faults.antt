@@ -2,24 +2,25 @@
 use mathlib.Core.Path.{◌≡◌, refl, sym}
 use mathlib.Core.Bool.{Bool, true, false}
 use mathlib.Core.List.{List}
-use Prim.Native.Nat.{ℕ, suc}
+use Prim.Native.Nat.{ℕ}
+use Rattle.std.specs.Prelude.{Option, Some, None, is_none}
 use native.Mathlib.Omega.{arith}
-use lib.Dec.{eqb}
-use borrow.Author.Tests.{ne_eqb}
 use Rattle.rules.specs.Answers.{no_fault}
 use Rattle.rules.specs.Table.{table_stands, broken_unless, entries_fault, fault}
 use Rattle.rules.specs.declared.Setting.{Setting}
+use Rattle.rules.specs.declared.TableRule.{TableRule}
+use Rattle.rules.specs.declared.TableRule.TheVariants.{HeaderRight, CountRight, NameRight, NamesDiffer, RangeAligned, RangeInside, RangesApart, SixNamed, BootInfoAtZero, TablesAsTold, BlocksOnGranules}
 use Rattle.rules.specs.declared.Fault.{Fault}
 use Rattle.rules.proofs.Lists.Tests.{by_cases, clash}
 use Rattle.rules.proofs.Table.Standing.{standing, stands}
 
 -- where no rule is told, this one is kept and none of those after it is told
-kept : (n e : ℕ) (holds : Bool) (later : Fault)
-    → (broken_unless (suc n) e holds later).rule ≡ 0
-    → (holds ≡ true) × (later.rule ≡ 0)
+kept : (rule : TableRule) (e : ℕ) (holds : Bool) (later : Option Fault)
+    → broken_unless rule e holds later ≡ no_fault
+    → (holds ≡ true) × (later ≡ no_fault)
 unfolding broken_unless
-kept n e true later h = (refl, h)
-kept n e false later h = absurd (omega (arith, h))
+kept rule e true later h = (refl, h)
+kept rule e false later h = absurd (let z : ◌≡◌ {A = ℕ} 0 1 = cc in omega arith)
 
 module _ (s : Setting) (len : ℕ) (t : List ℕ) where
   pub standing_no_fault : table_stands s len t ≡ true → fault s len t ≡ no_fault
@@ -40,20 +41,20 @@ module _ (s : Setting) (len : ℕ) (t : List ℕ) where
         st.rule11,
       )
 
-  pub no_fault_stands : (fault s len t).rule ≡ 0 → table_stands s len t ≡ true
+  pub no_fault_stands : fault s len t ≡ no_fault → table_stands s len t ≡ true
   unfolding fault entries_fault
   no_fault_stands h =
-      let (rule1, h) = kept 0 _ _ _ h in
-      let (rule2, h) = kept 1 _ _ _ h in
-      let (rule3, h) = kept 2 _ _ _ h in
-      let (rule4, h) = kept 3 _ _ _ h in
-      let (rule5, h) = kept 4 _ _ _ h in
-      let (rule6, h) = kept 5 _ _ _ h in
-      let (rule7, h) = kept 6 _ _ _ h in
-      let (rule8, h) = kept 7 _ _ _ h in
-      let (rule9, h) = kept 8 _ _ _ h in
-      let (rule10, h) = kept 9 _ _ _ h in
-      let (rule11, h) = kept 10 _ _ _ h in
+      let (rule1, h) = kept HeaderRight _ _ _ h in
+      let (rule2, h) = kept CountRight _ _ _ h in
+      let (rule3, h) = kept NameRight _ _ _ h in
+      let (rule4, h) = kept NamesDiffer _ _ _ h in
+      let (rule5, h) = kept RangeAligned _ _ _ h in
+      let (rule6, h) = kept RangeInside _ _ _ h in
+      let (rule7, h) = kept RangesApart _ _ _ h in
+      let (rule8, h) = kept SixNamed _ _ _ h in
+      let (rule9, h) = kept BootInfoAtZero _ _ _ h in
+      let (rule10, h) = kept TablesAsTold _ _ _ h in
+      let (rule11, h) = kept BlocksOnGranules _ _ _ h in
       stands s len t (record {
         rule1 = rule1;
         rule2 = rule2;
@@ -69,8 +70,11 @@ module _ (s : Setting) (len : ℕ) (t : List ℕ) where
       })
 
   -- one text serves both: a copy stands exactly if no rule is told of it
-  pub stands_exactly : table_stands s len t ≡ eqb (fault s len t).rule 0
+  pub stands_exactly : table_stands s len t ≡ is_none (fault s len t)
   stands_exactly = by_cases (table_stands s len t)
       (λ t'. rw (t', standing_no_fault t'))
-      (λ f. rw f
-      (sym (ne_eqb (fault s len t).rule 0 (λ z. clash (table_stands s len t) (no_fault_stands z) f))))
+      (λ f. rw f (sym (some_fault (fault s len t) (λ z. clash (table_stands s len t) (no_fault_stands z) f))))
+    where
+      some_fault : (f : Option Fault) → (f ≡ no_fault → ⊥) → is_none f ≡ false
+      some_fault None h = absurd (h refl)
+      some_fault (Some f) h = refl

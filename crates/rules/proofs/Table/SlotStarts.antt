@@ -4,7 +4,7 @@ use mathlib.Core.Path.{◌≡◌, refl, ◌∙◌}
 use mathlib.Core.Bool.{true, false, not, ◌&&◌}
 use mathlib.Core.Logic.{inl, inr}
 use mathlib.Core.List.{List, [], ◌∷◌, map}
-use mathlib.Core.Option.{some}
+use Rattle.std.specs.Prelude.{Some}
 use Prim.Native.Nat.{ℕ, zero, suc, ◌+◌, ◌≤◌, ◌<◌}
 use native.Mathlib.Nat.{le_of_suc-le-suc, not-suc-le-zero}
 use native.Mathlib.Omega.{arith}
@@ -34,7 +34,7 @@ slots_by_starts t k l = rw (length-map (slots (entries t)) (λ (e : Entry). e.st
 
 -- each start names its own slot, is above 0 and inside the longest image; there are no more than entries
 pub record SlotStarts (xs : List ℕ) : Type 0 where
-  pub own : (k : ℕ) → k < length xs → slot_named xs (get_or xs k 0) ≡ some k
+  pub own : (k : ℕ) → k < length xs → slot_named xs (get_or xs k 0) ≡ Some k
   pub above_0 : (k : ℕ) → k < length xs → 0 < get_or xs k 0
   pub inside : (k : ℕ) → k < length xs → get_or xs k 0 < longest
   pub few : length xs ≤ 127
@@ -51,7 +51,7 @@ finds_own : (es : List Entry)
     → pairwise ranges_apart es ≡ true
     → (k : ℕ)
     → k < length es
-    → slot_at (map start_of es) (get_or (map start_of es) k 0) ≡ some k
+    → slot_at (map start_of es) (get_or (map start_of es) k 0) ≡ Some k
 unfolding all pairwise slot_at one_more
 finds_own [] a p k h = absurd (not-suc-le-zero h)
 finds_own (e ∷ es) a p zero h = rw (eq-eqb e.start e.start refl)
@@ -169,7 +169,7 @@ module _ (s : Setting) (len : ℕ) (t : List ℕ) (fits : len ≤ longest) (st :
   unfolding all_zeros
   not_all_zeros v h = ne_eqb v 0 (λ e. omega arith)
 
-  names_own : (k : ℕ) → k < length ss → slot_named (map start_of ss) (get_or (map start_of ss) k 0) ≡ some k
+  names_own : (k : ℕ) → k < length ss → slot_named (map start_of ss) (get_or (map start_of ss) k 0) ≡ Some k
   names_own k l =
       other_values_name (map start_of ss) (get_or (map start_of ss) k 0)
       (not_all_ones (get_or (map start_of ss) k 0) (kept_start k l))

@@ -4,7 +4,7 @@ use mathlib.Core.Path.{◌≡◌, sym, ap, ◌∙◌, subst}
 use mathlib.Core.Bool.{true}
 use mathlib.Core.Logic.{◌⊎◌, inl, inr}
 use mathlib.Core.List.{List}
-use mathlib.Core.Option.{some}
+use Rattle.std.specs.Prelude.{Some}
 use Prim.Native.Nat.{ℕ, ◌+◌, ◌≤◌}
 use native.Mathlib.Omega.{arith}
 use lib.ListN.{length}
@@ -83,7 +83,7 @@ module _ (beginning : Beginning) (img : List ℕ) (r : Reading) (h : Invariant b
             → Reads (table_pair beginning) img' (block img s.spt0) ⊎ Reads (table_pair beginning) img' b
             → Invariant beginning img' r ⊎ Invariant beginning img' after
         which only (inl e) =
-            inl (with_new_tables beginning img r h img' only r.table (e ∙ ap some copy0_read.0)
+            inl (with_new_tables beginning img r h img' only r.table (e ∙ ap Some copy0_read.0)
             h.cpb0_there h.cpb1_there r.boot h.boots)
         which only (inr e) = inr (after_holds img' only e)
 

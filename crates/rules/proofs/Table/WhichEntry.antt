@@ -11,6 +11,7 @@ use Rattle.rules.specs.Numbers.{setting}
 use Rattle.rules.specs.Table.{Entry, name, boot_info, factory_image, spt0_name, spt1_name, cpb0_name, cpb1_name, six_names, has_name, no_entry, named}
 use Rattle.rules.specs.Table.{name_right, names_differ, range_aligned, range_inside, ranges_apart, six_named, boot_info_at_0}
 use Rattle.rules.specs.Table.{if_named, starts_at, boot_info_right, broken_unless, entries_fault}
+use Rattle.rules.specs.declared.TableRule.TheVariants.{BootInfoAtZero}
 
 -- elements 1 and 3 are too small
 pub lowest_told : first_failing (ltb 1) (2 ∷ 1 ∷ 3 ∷ 0 ∷ []) ≡ 1
@@ -35,6 +36,6 @@ pub rule_9_at_its_entry :
     ∷ entry_of cpb0_name 0x4000
     ∷ entry_of cpb1_name 0x5000
     ∷ [])
-    ≡ broken 9 1
+    ≡ broken BootInfoAtZero 1
 unfolding same all any pairwise first_failing first_clash first up_to_zero multiple name boot_info factory_image spt0_name spt1_name cpb0_name cpb1_name six_names has_name no_entry named name_right names_differ range_aligned range_inside ranges_apart six_named boot_info_at_0 if_named starts_at boot_info_right broken_unless entries_fault
 rule_9_at_its_entry = refl

@@ -18,10 +18,10 @@ six_right s es = six_named es && boot_info_at_0 es && tables_as_told s es && blo
 -- the end of `entries_fault`: rules 8 to 11
 unfoldable pub six_fault : Setting → List Entry → Fault
 six_fault s es =
-    broken_unless 8 no_entry_number (six_named es)
-    (broken_unless 9 (first_failing boot_info_right es) (boot_info_at_0 es)
-    (broken_unless 10 (first_failing (table_as_told s) es) (tables_as_told s es)
-    (broken_unless 11 (first_failing (block_on_granules s) es) (blocks_on_granules s es)
+    broken_unless SixNamed no_entry_number (six_named es)
+    (broken_unless BootInfoAtZero (first_failing boot_info_right es) (boot_info_at_0 es)
+    (broken_unless TablesAsTold (first_failing (table_as_told s) es) (tables_as_told s es)
+    (broken_unless BlocksOnGranules (first_failing (block_on_granules s) es) (blocks_on_granules s es)
     no_fault)))
 
 -- each is the first entry of its name; the number of entries where there is none

@@ -4,7 +4,7 @@ use mathlib.Core.List.{List}
 use Prim.Native.Nat.{ℕ, ◌<◌}
 use native.Mathlib.Omega.{arith}
 use lib.ListN.{length}
-use Rattle.rules.specs.Answers.{given, numbered}
+use Rattle.rules.specs.Answers.{given}
 use Rattle.rules.specs.Bytes.{block}
 use Rattle.rules.specs.Table.{starts}
 use Rattle.rules.specs.Copies.{order_by}
@@ -23,6 +23,7 @@ use Rattle.pointer_commands.proofs.CommandJobs.{disable_rewrite, disable_in_plac
 use Rattle.drafts.proofs.Drafting.{pair_means, drafts_refused}
 use Rattle.drafts.proofs.Asking.{disable-refused, disable-refused_8, disable_started, slot_counted}
 use Rattle.pointer_commands.proofs.disabling.disable_by.Goals as goal
+use Rattle.rules.specs.declared.Refusal.TheVariants.{NotInOrder}
 
 pub slot_places-given-requires : goal.slot_places-given-requires
 slot_places-given-requires c =
@@ -42,7 +43,7 @@ returns-then-found-eq0 c =
     let a = c.args in
     let none : length (giving) ≡ 0 =
     sym (listed_count (giving) c.slot_places-given.ensures.found) ∙ c.if-found-eq0.true in
-    drafts_refused a.setting a.image.now a.v (disable a.slot.0) _ (numbered 8)
+    drafts_refused a.setting a.image.now a.v (disable a.slot.0) _ NotInOrder
     (disable-refused_8 a.setting a.image.now a.v c.requires.0 a.slot.0 c.ask_slot-asked.result
     c.ask_slot-asked.ensures c.in-Started.is (table_of) (pointers_of_flash) refl refl
     (giving) refl none)

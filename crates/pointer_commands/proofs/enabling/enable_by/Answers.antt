@@ -4,7 +4,7 @@ use Prim.Native.Nat.{◌<◌}
 use native.Mathlib.Omega.{arith}
 use lib.ListN.{length}
 use borrow.Author.Tests.{not-true, not-false}
-use Rattle.rules.specs.Answers.{numbered}
+
 use Rattle.rules.specs.Table.{entry_count, entries, slots}
 use Rattle.rules.specs.Commands.{enable}
 use Rattle.views.specs.Inner.Located.{Located}
@@ -16,6 +16,7 @@ use Rattle.drafts.proofs.Asking.{enable-refused, enable-refused_14, enable-refus
 use mathlib.Core.Path.{ap}
 use mathlib.Core.Bool.{not}
 use Rattle.pointer_commands.proofs.enabling.enable_by.Goals as goal
+use Rattle.rules.specs.declared.Refusal.TheVariants.{SlotEmpty, NoPlaceLeft}
 
 pub ask_slot-asked-requires : goal.ask_slot-asked-requires
 ask_slot-asked-requires c =
@@ -59,7 +60,7 @@ is_erased-requires c =
 pub returns-then-is_erased : goal.returns-then-is_erased
 returns-then-is_erased c =
     let a = c.args in
-    drafts_refused a.setting a.image.now a.v (enable a.slot.0) _ (numbered 14)
+    drafts_refused a.setting a.image.now a.v (enable a.slot.0) _ SlotEmpty
     (enable-refused_14 a.setting a.image.now a.v c.requires.0 a.slot.0 c.ask_slot-asked.result
     c.ask_slot-asked.ensures c.in-Started.is c.block_at-t.result.now
     c.block_at-t.ensures.0 c.slot_start-start.result c.slot_start-start.ensures
@@ -93,7 +94,7 @@ enough_places-requires c =
 pub returns-then-not-enough_places : goal.returns-then-not-enough_places
 returns-then-not-enough_places c =
     let a = c.args in
-    drafts_refused a.setting a.image.now a.v (enable a.slot.0) _ (numbered 15)
+    drafts_refused a.setting a.image.now a.v (enable a.slot.0) _ NoPlaceLeft
     (enable-refused_15 a.setting a.image.now a.v c.requires.0 a.slot.0 c.ask_slot-asked.result
     c.ask_slot-asked.ensures c.in-Started.is c.block_at-t.result.now
     c.block_at-t.ensures.0 c.slot_start-start.result c.slot_start-start.ensures

@@ -1,6 +1,6 @@
 -- `create_by` refuses or starts create as its definition says. Assumes nothing.
 use native.Mathlib.Omega.{arith}
-use Rattle.rules.specs.Answers.{numbered}
+
 use Rattle.rules.specs.Commands.{create}
 use Rattle.rules.proofs.Table.Renaming.{allowed}
 use Rattle.views.specs.Inner.Located.{Located}
@@ -9,6 +9,7 @@ use Rattle.drafts.proofs.Locating.{tables_fit}
 use Rattle.drafts.proofs.Drafting.{drafts_refused}
 use Rattle.table_commands.proofs.NewAsked.{placed, create-refused, create-refused_42, create_started, name_passed, size_passed, row_left}
 use Rattle.table_commands.proofs.creating.create_by.Goals as goal
+use Rattle.rules.specs.declared.Refusal.TheVariants.{NoStart}
 
 pub ask_new-asked-requires : goal.ask_new-asked-requires
 ask_new-asked-requires c =
@@ -63,7 +64,7 @@ pub returns-then-len-start : goal.returns-then-len-start
 returns-then-len-start c =
     let a = c.args in
     let img = a.image.now in
-    drafts_refused a.setting img a.v (create a.name.now a.size) _ (numbered 42)
+    drafts_refused a.setting img a.v (create a.name.now a.size) _ NoStart
     (create-refused_42 a.setting img a.v c.requires.0 a.name.now a.size c.ask_new-asked.result
     c.ask_new-asked.ensures c.in-Started.is c.block_at-t.result.now
     c.block_at-p.result.now c.entry_count-n.result c.lowest_start-start.result

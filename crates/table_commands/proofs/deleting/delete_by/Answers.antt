@@ -3,7 +3,7 @@ use mathlib.Core.Path.{refl}
 use mathlib.Core.List.{List}
 use Prim.Native.Nat.{ℕ, ◌≤◌}
 use native.Mathlib.Omega.{arith}
-use Rattle.rules.specs.Answers.{numbered}
+
 use Rattle.rules.specs.Bytes.{block}
 use Rattle.rules.specs.Commands.{delete}
 use Rattle.walks.specs.Entries.{most_entries}
@@ -15,6 +15,7 @@ use Rattle.drafts.proofs.Drafting.{drafts_refused}
 use Rattle.drafts.proofs.Asking.{slot_counted, row_below}
 use Rattle.table_commands.proofs.NewAsked.{delete-refused, delete-refused_43, delete_started}
 use Rattle.table_commands.proofs.deleting.delete_by.Goals as goal
+use Rattle.rules.specs.declared.Refusal.TheVariants.{IsInOrder}
 
 pub slot_places-given-requires : goal.slot_places-given-requires
 slot_places-given-requires c =
@@ -32,7 +33,7 @@ returns-then-found-gt0 c =
     let giving : List ℕ = places_giving (table_of) (block c.args.image.now c.args.v.pointers) c.args.slot.0 in
     let a = c.args in
     let counted = listed_count (giving) c.slot_places-given.ensures.found in
-    drafts_refused a.setting a.image.now a.v (delete a.slot.0) _ (numbered 43)
+    drafts_refused a.setting a.image.now a.v (delete a.slot.0) _ IsInOrder
     (delete-refused_43 a.setting a.image.now a.v c.requires.0 a.slot.0 c.ask_slot-asked.result
     c.ask_slot-asked.ensures c.in-Started.is (table_of) _ (giving) refl refl refl
     (omega (arith, counted, c.if-found-gt0.true)))

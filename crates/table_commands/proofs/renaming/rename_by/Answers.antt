@@ -3,7 +3,7 @@ use mathlib.Core.Path.{refl}
 use Prim.Native.Nat.{◌≤◌}
 use native.Mathlib.Omega.{arith}
 use lib.ListN.{length}
-use Rattle.rules.specs.Answers.{numbered}
+
 use Rattle.rules.specs.Bytes.{block}
 use Rattle.rules.specs.Table.{entry_count}
 use Rattle.rules.specs.Commands.{rename}
@@ -20,6 +20,7 @@ use Rattle.drafts.proofs.Asking.{rename-refused, rename-refused_9, rename-refuse
 use mathlib.Core.Path.{ap}
 use mathlib.Core.Bool.{not}
 use Rattle.table_commands.proofs.renaming.rename_by.Goals as goal
+use Rattle.rules.specs.declared.Refusal.TheVariants.{NameNotAllowed, NameTaken}
 
 pub ask_slot-asked-requires : goal.ask_slot-asked-requires
 ask_slot-asked-requires c =
@@ -33,7 +34,7 @@ returns-then-not-name_allowed c =
     let img = a.image.now in
     let st = a.setting in
     let t = block img a.v.table in
-    drafts_refused st img a.v (rename a.slot.0 a.name.now) _ (numbered 9)
+    drafts_refused st img a.v (rename a.slot.0 a.name.now) _ NameNotAllowed
     (rename-refused_9 st img a.v c.requires.0 a.slot.0 c.ask_slot-asked.result
     c.ask_slot-asked.ensures c.in-Started.is t
     (entry_count t) refl refl a.name.now (failed c.name_allowed.ensures (ap not c.if-not-name_allowed.true)))
@@ -65,7 +66,7 @@ returns-then-not-name_free c =
     let st = a.setting in
     let name_right = passed c.name_allowed.ensures (ap not c.if-not-name_allowed.false) in
     let whole = whole_name a.name.now (allowed a.name.now name_right).without_zero in
-    drafts_refused st img a.v (rename a.slot.0 a.name.now) _ (numbered 10)
+    drafts_refused st img a.v (rename a.slot.0 a.name.now) _ NameTaken
     (rename-refused_10 st img a.v c.requires.0 a.slot.0 c.ask_slot-asked.result
     c.ask_slot-asked.ensures c.in-Started.is
     c.block_at-t.result.now c.entry_count-n.result c.block_at-t.ensures.0
