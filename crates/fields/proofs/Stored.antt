@@ -1,11 +1,9 @@
--- Bytes put at an offset one after the other, and the bytes of a number in two halves. Assumes nothing.
-use mathlib.Core.Path.{◌≡◌, sym, ◌∙◌}
-use mathlib.Core.List.{List, ◌++◌, append_assoc}
-use Prim.Native.Nat.{ℕ, zero, suc, ◌+◌, ◌*◌, ◌/◌, ◌^◌, ◌≤◌}
-use native.Mathlib.Nat.{div-div-eq-div-mul, div-one, pow-suc, zero-add, suc-add, mul_comm}
-use native.Mathlib.Omega.{arith}
-use lib.ListN.{length, take, drop, length-append, length-take, length-drop, take-append-drop}
-use lib.Seq.{sets, sets-eq, paste, take_at, drop_at, take-length, length-take-le, drop-drop}
+-- Bytes put at an offset one after the other. Assumes nothing.
+use Rattle.std.proofs.Common.{◌≡◌, ℕ, ◌+◌, ◌-◌, ◌≤◌, List, ◌++◌, length, take, drop, sym, ◌∙◌, append_assoc, arith}
+use Rattle.std.proofs.lemmas.List.{length-append, length-drop, length-take, length-take-le, take-append-drop}
+use native.Mathlib.Nat.{add-sub_cancel_left}
+use lib.Seq.{take_at, drop_at, drop-drop}
+use borrow.Rule.Slice.PartMut.{put_mid}
 use Rattle.rules.specs.Bytes.{bytes_of}
 use Rattle.rules.specs.Final.{put_at}
 use Rattle.rules.proofs.Lists.Words.{length-bytes_of}
@@ -14,13 +12,10 @@ pub length-put_at : (at : ℕ) (bs img : List ℕ) → at + length bs ≤ length
 unfolding put_at
 length-put_at at bs img h = simp (length-append, length-take, length-drop) (omega arith)
 
-pub stored_at : (bs img : List ℕ) (at : ℕ) → at + length bs ≤ length img → sets img at bs ≡ put_at at bs img
+-- a part of the bytes, overwritten
+pub part_put : (at : ℕ) (bs img : List ℕ) → put_mid at (at + length bs - at) img bs ≡ put_at at bs img
 unfolding put_at
-stored_at bs img at h = sets-eq bs img at h ∙ append_assoc (take at img) bs (drop (at + length bs) img)
-
-pub pasted_at : (img : List ℕ) (at : ℕ) (bs : List ℕ) → paste img at bs (length bs) ≡ put_at at bs img
-unfolding put_at
-pasted_at img at bs = rw (append_assoc, take-length)
+part_put at bs img = rw (add-sub_cancel_left at (length bs), drop-drop)
 
 -- bytes put where bytes put before end
 put_at_then : (at : ℕ) (xs ys img : List ℕ)
@@ -63,20 +58,3 @@ pub number_then : (at n v : ℕ) (ys img : List ℕ) {mid after : List ℕ}
     → after ≡ put_at (at + n) ys mid
     → after ≡ put_at at (bytes_of n v ++ ys) img
 number_then at n v ys img = put_then at n (bytes_of n v) ys img (length-bytes_of n v)
-
--- the bytes of a number: the lower ones, then those of the rest of it
-bytes_of_halves : (n m v : ℕ) → bytes_of (n + m) v ≡ bytes_of n v ++ bytes_of m (v / 256 ^ n)
-unfolding bytes_of
-bytes_of_halves zero m v = rw (zero-add, div-one)
-bytes_of_halves (suc n) m v =
-    let e : 256 * 256 ^ n ≡ 256 ^ suc n = mul_comm 256 (256 ^ n) ∙ sym (pow-suc 256 n) in
-    rw (suc-add n m, bytes_of_halves n m (v / 256), div-div-eq-div-mul, e)
-
--- a number stored in two halves
-pub halves_stored : (n at v : ℕ) (img : List ℕ) {mid after : List ℕ}
-    → at + (n + n) ≤ length img
-    → mid ≡ put_at at (bytes_of n v) img
-    → after ≡ put_at (at + n) (bytes_of n (v / 256 ^ n)) mid
-    → after ≡ put_at at (bytes_of (n + n) v) img
-halves_stored n at v img h e f =
-    rw (bytes_of_halves n n v) (number_then at n v (bytes_of n (v / 256 ^ n)) img (omega arith) e f)

@@ -1,10 +1,7 @@
 -- A part of a whole, by where it begins and how long it is. Assumes nothing.
-use Rattle.std.specs.Prelude.{true, false, cond, ℕ, ◌+◌, leb}
-use Rattle.fields.specs.declared.bounds.Part.{Part}
+use Rattle.std.specs.Prelude.{if◌then◌else◌, ℕ, ◌+◌, nat_le, Option, Some, None}
+use Rattle.std.specs.declared.ops.Range.{Range}
 
 -- one that passes the end of the whole is no part
-unfoldable pub part : ℕ → ℕ → ℕ → Part
-part whole at n =
-    cond (leb (at + n) whole)
-    (record { right = true; from = at; to = at + n })
-    (record { right = false; from = 0; to = 0 })
+unfoldable pub part : ℕ → ℕ → ℕ → Option (Range ℕ)
+part whole at n = if nat_le (at + n) whole then Some (record { start = at; end = at + n }) else None

@@ -1,56 +1,36 @@
-// Differences, bounds and parts that never wrap.
+// Bounds and parts, by sums that never wrap.
 ghost use Rattle.std.specs.Prelude.{◌≡◌, ◌+◌, ◌-◌, ◌≤◌, min, leb};
+ghost use Rattle.std.specs.Option.{IfSome};
 ghost use Rattle.fields.specs.Bounds.{part};
+
+use std::ops::Range;
 
 pub fn min(a: usize, b: usize) -> usize
     ensures { result ≡ min a b }
 {
-    if a <= b { a } else { b }
+    a.min(b)
 }
 
 // The difference, 0 where there is none.
 pub fn saturating_sub(a: usize, b: usize) -> usize
     ensures { result ≡ a - b }
 {
-    if a <= b { 0 } else { a - b }
+    a.saturating_sub(b)
 }
 
 // A range ends at a bound or before it: exact, where start + size would wrap.
 pub fn ends_by(start: u64, size: u64, bound: u64) -> bool
     ensures { result ≡ leb (start + size) bound }
 {
-    if bound < start {
-        return false;
-    }
-    size <= bound - start
+    start.checked_add(size).is_some_and(|end| end <= bound)
 }
 
-// Where a part begins and ends. An empty one that is not right stands for a part that lies outside.
-#[derive(Clone, Copy)]
-pub struct Part {
-    pub right: bool,
-    pub from: usize,
-    pub to: usize,
-}
-
-// So many bytes of a whole from an address on.
-pub fn part_of(whole: usize, at: usize, n: usize) -> Part
-    ensures { (result ≡ part whole at n) × ((result.from ≤ result.to) × (result.to ≤ whole)) }
+// Where so many bytes from an address on lie in a whole, if they lie inside.
+#[tactic(auto, unfolding(crate::specs::Bounds::part))]
+pub fn part_of(whole: usize, at: usize, n: usize) -> Option<Range<usize>>
+    ensures part { result ≡ part whole at n }
+    ensures inside { IfSome result (λ r. (r.start ≤ r.end) × (r.end ≤ whole)) }
 {
-    let none = Part {
-        right: false,
-        from: 0,
-        to: 0,
-    };
-    if whole < at {
-        return none;
-    }
-    if whole - at < n {
-        return none;
-    }
-    Part {
-        right: true,
-        from: at,
-        to: at + n,
-    }
+    let end = at.checked_add(n)?;
+    if end <= whole { Some(at..end) } else { None }
 }

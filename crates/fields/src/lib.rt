@@ -1,27 +1,35 @@
 // Little-endian fields of lent bytes, and the part of an image that is a block.
 #![tactic(auto)]
 
-ghost use Rattle.std.specs.Prelude.{◌≡◌, ◌+◌, ◌*◌, ◌≤◌, ◌<◌, eqb, length};
+ghost use Rattle.std.specs.Prelude.{◌≡◌, ◌+◌, ◌*◌, ◌^◌, ◌≤◌, ◌<◌, eqb, length};
 ghost use Rattle.rules.specs.Bytes.{field, block, block_size};
 ghost use Rattle.walks.specs.Four.{one_of_four};
 
 pub mod bounds; // differences, bounds and parts
 pub mod stores; // numbers and bytes into lent bytes
 
-// The field of 4 bytes at an offset.
+// The field of N bytes at an offset.
+pub fn number<const N: usize>(s: &[u8], at: usize) -> u64
+    requires { (N ≤ 8) × (at + N ≤ length s.now) }
+    ensures { (result ≡ field at N s.now) × (result < 256 ^ N) }
+{
+    let mut bytes = [0; 8];
+    bytes[..N].copy_from_slice(&s[at..at + N]);
+    u64::from_le_bytes(bytes)
+}
+
 pub fn le32(s: &[u8], at: usize) -> u64
     requires { at + 4 ≤ length s.now }
     ensures { (result ≡ field at 4 s.now) × (result < 0x100000000) }
 {
-    le16(s, at) + 0x10000 * le16(s, at + 2)
+    number::<4>(s, at)
 }
 
-// The field of 8 bytes at an offset.
 pub fn le64(s: &[u8], at: usize) -> u64
     requires { at + 8 ≤ length s.now }
     ensures { result ≡ field at 8 s.now }
 {
-    le32(s, at) + 0x1_0000_0000 * le32(s, at + 4)
+    number::<8>(s, at)
 }
 
 // One of four fields of 8 bytes has the value: the first at an offset, each of the others so far behind the one before.
@@ -33,7 +41,10 @@ pub fn one_of_four(s: &[u8], at: usize, apart: usize, v: u64) -> bool
     let second = at + apart;
     let third = second + apart;
     let fourth = third + apart;
-    (le64(s, at) == v) | (le64(s, second) == v) | (le64(s, third) == v) | (le64(s, fourth) == v)
+    (number::<8>(s, at) == v)
+        | (number::<8>(s, second) == v)
+        | (number::<8>(s, third) == v)
+        | (number::<8>(s, fourth) == v)
 }
 
 // The 4,096 bytes at an address of an image: a part of what is lent, not a copy.
@@ -44,16 +55,9 @@ pub fn block_at(image: &[u8], at: usize) -> &[u8]
     &image[at..at + rules::BLOCK_SIZE]
 }
 
-// The field of 2 bytes at an offset.
 pub fn le16(s: &[u8], at: usize) -> u64
     requires { at + 2 ≤ length s.now }
     ensures { (result ≡ field at 2 s.now) × (result < 0x10000) }
 {
-    wide(s[at]) + 256 * wide(s[at + 1])
-}
-
-fn wide(x: u8) -> u64
-    ensures { (result ≡ x) × (result < 256) }
-{
-    x as u64
+    number::<2>(s, at)
 }

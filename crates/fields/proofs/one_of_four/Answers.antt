@@ -18,8 +18,8 @@ returns c =
       at2,
       at3,
       at4,
-      c.le64.ensures,
-      c.le64-2.ensures,
-      c.le64-3.ensures,
-      c.le64-4.ensures,
+      c.number.ensures.0,
+      c.number-2.ensures.0,
+      c.number-3.ensures.0,
+      c.number-4.ensures.0,
     )

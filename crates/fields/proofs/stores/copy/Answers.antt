@@ -1,33 +1,6 @@
--- `copy` puts the bytes given at an offset. The loop's invariant: the first i of them are there. Assumes nothing.
-use mathlib.Core.Path.{◌≡◌, ap, ◌∙◌}
-use mathlib.Core.List.{List}
-use Prim.Native.Nat.{ℕ, ◌+◌, ◌-◌}
-use native.Mathlib.Numerals.{add-one}
-use native.Mathlib.Omega.{arith}
-use lib.ListN.{length, get_or, set, length-set}
-use lib.Seq.{paste-zero, paste-suc}
-use borrow.Author.Rules.{rules}
-use Rattle.fields.proofs.Stored.{pasted_at}
+-- `copy` puts the bytes given at an offset. Assumes nothing.
+use Rattle.fields.proofs.Stored.{part_put}
 use Rattle.fields.proofs.stores.copy.Goals as goal
 
-pub loop-i-init : goal.loop-i-init
-loop-i-init c = (search rules, (search rules, paste-zero c.args.out.now c.args.at c.args.given.now))
-
-pub loop-i-preserved : goal.loop-i-preserved
-loop-i-preserved c =
-    let a = c.args in
-    let i = c.loop-i.i in (
-      omega arith,
-      (
-        simp length-set c.loop-i.invariant.1.0,
-        rw add-one
-            (ap (λ (x : List ℕ). set x (a.at + i) (get_or a.given.now i 0)) c.loop-i.invariant.1.1
-            ∙ paste-suc a.out.now a.at a.given.now i 0 (omega arith) (omega arith)),
-      ),
-    )
-
 pub returns : goal.returns
-returns c =
-    let a = c.args in
-    let all : c.loop-i.i ≡ length a.given.now = omega arith in
-    (rw all at c.loop-i.invariant.1.1) ∙ pasted_at a.out.now a.at a.given.now
+returns c = rw c.copy_from_slice.ensures.after (part_put c.args.at c.args.given.now c.args.out.now)
