@@ -9,7 +9,7 @@ ghost use Rattle.rules.specs.Table.{rows, magic_right, header_right, count_right
 ghost use Rattle.walks.specs.Entries.{HasEntries};
 
 use entry_rules::{Rule, each, naming, ranges};
-use rules::{EntryNo, Fault, Setting};
+use rules::{EntryNo, Fault, Setting, TableRule};
 
 mod faults; // the first rule that a copy breaks
 mod six; // rules 8 to 11
@@ -46,16 +46,16 @@ pub fn table_stands(image: &[u8], at: usize, setting: Setting) -> bool
 }
 
 // The first broken rule of the copy at an address of the image, and the entry that breaks it.
-pub fn table_fault(image: &[u8], at: usize, setting: Setting) -> Fault
+pub fn table_fault(image: &[u8], at: usize, setting: Setting) -> Option<Fault>
     requires { (at + block_size ≤ length image.now) × (0 < setting.granule) }
     ensures { result ≡ fault setting (length image.now) (block image.now at) }
 {
     let table = fields::block_at(image, at);
     if !header_is_right(table) {
-        return faults::broken_at(1, EntryNo(faults::NO_ENTRY));
+        return faults::broken_at(TableRule::HeaderRight, EntryNo(faults::NO_ENTRY));
     }
     if !count_is_right(table) {
-        return faults::broken_at(2, EntryNo(faults::NO_ENTRY));
+        return faults::broken_at(TableRule::CountRight, EntryNo(faults::NO_ENTRY));
     }
     let n = entries::entry_count(table);
     let len = image.len() as u64;

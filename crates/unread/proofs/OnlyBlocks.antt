@@ -18,7 +18,7 @@ use Rattle.rules.specs.Answers.{Answer, refused, given, unless, ◌>>=◌}
 use Rattle.rules.specs.declared.Setting.{Setting}
 use Rattle.rules.specs.Table.{entries, table_stands, starts, cpb0_of, cpb1_of}
 use Rattle.rules.specs.Pointers.{pointers_stand}
-use Rattle.rules.specs.Copies.{table_read, pointers_read, view_through, view, boot_order, pair_agrees, tables_agree, pointers_agree, agree_by, agreed, pairs_agree, no_table}
+use Rattle.rules.specs.Copies.{table_read, pointers_read, view_through, view, boot_order, pair_agrees, tables_agree, pointers_agree, agree_by, agreed, pairs_agree, both_faults, no_table}
 use Rattle.rules.specs.Readers.{slot_there, order_list, table_of, table_part, slot_count, slot_info, slot_name}
 use Rattle.rules.specs.Commands.{Command, enable, disable, rename, create, delete, repair, created_start, repair_pair, repair_steps, slot_empty, enough_places, enable_steps, job, start}
 use Rattle.rules.specs.Book.{read_by, reading}
@@ -26,6 +26,7 @@ use Rattle.rules.specs.declared.View.{View}
 use Rattle.rules.proofs.Lists.Tests.{given_inj, bind_given, unless-given}
 use Rattle.rules.proofs.Copies.CopyRead.{WhichAddress, which_address, copy_read_same}
 use Rattle.unread.specs.SameBlocks.{SameBlocks, SameSlot}
+use Rattle.rules.specs.declared.Refusal.{Refusal}
 use Rattle.rules.specs.declared.Refusal.TheVariants.{BadLength, BadGranule, BadAddresses, NoPointers, NoSuchSlot, SlotEmpty, NoPlaceLeft}
 
 -- what is asked further need agree only on what is given
@@ -40,7 +41,7 @@ module _ (s : Setting) (img img' : List ℕ) (same : SameBlocks s img img') wher
   -- ---- the view
 
   no_table_same : no_table s img ≡ no_table s img'
-  unfolding no_table
+  unfolding no_table both_faults
   no_table_same = rw (same.same_length, same.spt0, same.spt1)
 
   table_read_same : table_read s img ≡ table_read s img'
@@ -174,7 +175,7 @@ module _ (s : Setting) (img img' : List ℕ) (same : SameBlocks s img img') wher
   -- ---- the commands
 
   -- a test that is made only where the one before it passed
-  unless_same : {A : Type 0} (n m : ℕ) (first test test' : Bool) (a : Answer A)
+  unless_same : {A : Type 0} (n m : Refusal) (first test test' : Bool) (a : Answer A)
       → (first ≡ true → test ≡ test')
       → unless n first (unless m test a) ≡ unless n first (unless m test' a)
   unfolding unless

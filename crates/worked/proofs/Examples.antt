@@ -4,11 +4,12 @@ use mathlib.Core.Path.{◌≡◌, refl}
 use mathlib.Core.Bool.{Bool, true, false}
 use mathlib.Core.List.{List, [], ◌∷◌, ◌++◌, map}
 use Prim.Native.Nat.{ℕ, suc, ◌+◌, ◌*◌}
+use Rattle.std.specs.Prelude.{Option}
 use lib.Dec.{eqb, ltb}
 use lib.ListN.{take, drop, length, get_or, replicate}
 use Rattle.rules.specs.Lists.{same, without, pairwise, first_failing, first_clash, keep, first}
 use Rattle.rules.specs.Bytes.{little_endian, bytes_of, field, block, up_to_zero, multiple}
-use Rattle.rules.specs.Answers.{refused, given, unless, ◌>>=◌, broken, no_fault}
+use Rattle.rules.specs.Answers.{refused, given, unless, ◌>>=◌, broken, no_fault, number_of, rule_number}
 use Rattle.rules.specs.Numbers.{setting, length_right, granule_right, addresses_right}
 use Rattle.rules.specs.Table.{Entry, entry, entry_count, entries, boot_info, spt0_name, cpb0_name, cpb1_name, has_name, is_fixed_name, no_entry, named, cpb0_of, header_right, count_right, name_right, names_differ, range_aligned, range_inside, ranges_apart, six_named, boot_info_at_0, tables_as_told, on_granules, blocks_on_granules, table_stands, entries_fault, fault, is_slot, starts}
 use Rattle.rules.specs.Pointers.{pointers_stand, places, erased_value, judged, order}
@@ -16,6 +17,7 @@ use Rattle.rules.specs.Copies.{copy_read, no_table, pair_agrees, dump_stands, st
 use Rattle.rules.specs.Readers.{order_in, row_after, slot_row, info, name_in}
 use Rattle.rules.specs.Steps.{programmed, wiped, steps, programs, rewrite, rewrite_pair}
 use Rattle.rules.specs.declared.Fault.{Fault}
+use Rattle.rules.specs.declared.TableFaults.{TableFaults}
 use Rattle.rules.specs.Commands.{pointer_bytes, filled, pointers_of, free_place, is_first, into_place, append_steps, giving, into_places, half_cleared_names, padded_name, put_name, name_allowed, name_free, rename_steps, may_start, upward, lowest_start, has_start, new_row, with_new_row, without_row, size_right, repair_pair, enable, disable, rename, delete, slot_empty}
 use Rattle.rules.specs.Cuts.{Progress, run, may_run, runs, half_done, dropped, wiped_where}
 use Rattle.rules.specs.Book.{Reading, the_commands, was_refused, finished, cut, how_ended, renamed, booked}
@@ -24,7 +26,7 @@ use Rattle.rules.specs.declared.Place.TheVariants.{Erased, Live, Spent, PartWrit
 use Rattle.rules.specs.declared.Step.{Step}
 use Rattle.rules.specs.declared.Step.TheVariants.{Program, Erase}
 use Rattle.quarry.proofs.Opened.{rules}
-use Rattle.rules.specs.declared.Refusal.TheVariants.{NoPointers, NoSuchSlot, NoStepsLeft, OutsideImage, RowTooShort}
+use Rattle.rules.specs.declared.Refusal.TheVariants.{BadLength, BadGranule, BadAddresses, NoPointers, CopiesDiffer, NoSuchSlot, NotInOrder, NameNotAllowed, NameTaken, NoStepsLeft, OutsideImage, RowTooShort, SlotEmpty, NoPlaceLeft, LengthWrong, NoRowLeft, NoStart, IsInOrder, NoMagic, NoTable, NotAJob, NameTooLong, NoSuchEntry, NoSuchPlace}
 use Rattle.rules.specs.declared.TableRule.TheVariants.{HeaderRight, CountRight, NameRight, NamesDiffer, RangeAligned, RangeInside, RangesApart, SixNamed, BootInfoAtZero, TablesAsTold, BlocksOnGranules}
 
 -- three application slots' starts, slot number 0 first
@@ -50,6 +52,26 @@ begins_with_1 b = eqb (get_or b 0 0) 1
 -- a job under way
 abbrev at : List ℕ → List Step → Progress
 at img ss = record { image = img; left = ss }
+
+-- ---- the numbers of refusals and of rules
+
+-- of two copies that stand
+abbrev no_faults : TableFaults
+no_faults = record { fault0 = no_fault; fault1 = no_fault }
+
+refusal_examples :
+    (map number_of
+    (BadLength ∷ BadGranule ∷ BadAddresses ∷ NoPointers ∷ CopiesDiffer ∷ NoSuchSlot ∷ NotInOrder ∷ NameNotAllowed ∷ NameTaken ∷ [])
+    ≡ 1 ∷ 2 ∷ 3 ∷ 5 ∷ 6 ∷ 7 ∷ 8 ∷ 9 ∷ 10 ∷ [])
+    × (map number_of (NoStepsLeft ∷ OutsideImage ∷ RowTooShort ∷ SlotEmpty ∷ NoPlaceLeft ∷ []) ≡ 11 ∷ 12 ∷ 13 ∷ 14 ∷ 15 ∷ [])
+    × (map number_of (LengthWrong ∷ NoRowLeft ∷ NoStart ∷ IsInOrder ∷ []) ≡ 40 ∷ 41 ∷ 42 ∷ 43 ∷ [])
+    × (map number_of (NoMagic no_faults ∷ NoTable no_faults ∷ []) ≡ 50 ∷ 51 ∷ [])
+    × (map number_of (NotAJob ∷ NameTooLong ∷ NoSuchEntry ∷ NoSuchPlace ∷ []) ≡ 90 ∷ 91 ∷ 92 ∷ 93 ∷ [])
+    × (map rule_number
+    (HeaderRight ∷ CountRight ∷ NameRight ∷ NamesDiffer ∷ RangeAligned ∷ RangeInside ∷ RangesApart ∷ SixNamed ∷ BootInfoAtZero
+    ∷ TablesAsTold ∷ BlocksOnGranules ∷ [])
+    ≡ 1 ∷ 2 ∷ 3 ∷ 4 ∷ 5 ∷ 6 ∷ 7 ∷ 8 ∷ 9 ∷ 10 ∷ 11 ∷ [])
+refusal_examples = (refl, refl, refl, refl, refl, refl)
 
 -- ---- lists and bytes
 
@@ -140,7 +162,7 @@ abbrev boot_info_from : ℕ → Entry
 boot_info_from start = record { name_field = boot_info; start = start; size = 0x1000; flags = 1 }
 
 -- what is told of rules 3 to 11 in an image of 0xC000 bytes
-abbrev told : List Entry → Fault
+abbrev told : List Entry → Option Fault
 told es = entries_fault quarry_setting 0xC000 es
 
 -- the first broken rule and its entry: rules 1 and 2, then 3 to 11, and which of two is told
@@ -188,11 +210,11 @@ copy_and_dump_examples :
     (copy_read NoPointers begins_with_1 (1 ∷ 1 ∷ []) 0 1 ≡ given 0)
     × (copy_read NoPointers begins_with_1 (2 ∷ 1 ∷ []) 0 1 ≡ given 1)
     × (copy_read NoPointers begins_with_1 (2 ∷ 2 ∷ []) 0 1 ≡ refused NoPointers)
-    × (map (λ img. (no_table (setting 4096 0 8) img).number)
+    × (map (λ img. number_of (no_table (setting 4096 0 8) img))
     (replicate 16 0 ∷ (bytes_of 8 0 ++ bytes_of 4 0x57713427) ∷ (bytes_of 4 0x57713427 ++ bytes_of 4 1) ∷ [])
     ≡ 50 ∷ 51 ∷ 51 ∷ [])
     × (no_table (setting 4096 0 0x1000) (table ++ replicate 4096 0)
-    ≡ record { number = 51; fault0 = broken RangeInside 1; fault1 = broken HeaderRight 127 })
+    ≡ NoTable (record { fault0 = broken RangeInside 1; fault1 = broken HeaderRight 127 }))
     × (pair_agrees begins_with_1 (1 ∷ 1 ∷ []) 0 1 ≡ false)
     × (map (λ b. pair_agrees begins_with_1 (b ∷ []) 0 0) (1 ∷ 2 ∷ []) ≡ true ∷ false ∷ [])
     × (standing_dump (quarry_pointers []) (quarry_pointers (0 ∷ [])) ≡ quarry_pointers [])

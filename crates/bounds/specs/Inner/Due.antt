@@ -1,11 +1,15 @@
--- Which of refusals 1 to 3 is due, as one number. Assumes nothing.
-use Rattle.std.specs.Prelude.{◌≡◌, true, cond, ℕ}
+-- Refusals 1 to 3 in their order, and what holds where none of them is due. Assumes nothing.
+use Rattle.std.specs.Prelude.{◌≡◌, true, ℕ}
+use Rattle.rules.specs.Answers.{Answer, given, unless}
 use Rattle.rules.specs.Numbers.{length_right, granule_right, addresses_right}
 use Rattle.rules.specs.declared.Setting.{Setting}
+use Rattle.rules.specs.declared.Refusal.TheVariants.{BadLength, BadGranule, BadAddresses}
 
--- the first of refusals 1 to 3 that is due, or 0
-unfoldable pub due : Setting → ℕ → ℕ
-due s len = cond (length_right len) (cond (granule_right s.granule) (cond (addresses_right s len) 0 3) 2) 1
+-- the first of refusals 1 to 3 that is due
+unfoldable pub due : Setting → ℕ → Answer (Unit {0})
+due s len =
+    unless BadLength (length_right len)
+    (unless BadGranule (granule_right s.granule) (unless BadAddresses (addresses_right s len) (given tt)))
 
 -- none of them is due
 pub record NoneDue (s : Setting) (len : ℕ) : Type 0 where

@@ -1,6 +1,6 @@
 -- Rules 8 to 11 together, the first of them that is broken, and the entry numbers of the six by which code judges them.
 -- Assumes nothing.
-use Rattle.std.specs.Prelude.{◌≡◌, Bool, ◌&&◌, List, ℕ, ◌<◌, ltb}
+use Rattle.std.specs.Prelude.{Option, ◌≡◌, Bool, ◌&&◌, List, ℕ, ◌<◌, ltb}
 use Rattle.rules.specs.Lists.{first_failing}
 use Rattle.rules.specs.Answers.{no_entry_number, no_fault}
 use Rattle.rules.specs.declared.Setting.{Setting}
@@ -10,13 +10,14 @@ use Rattle.rules.specs.Table.{six_named, boot_info_at_0, tables_as_told, blocks_
 use Rattle.rules.specs.Table.{boot_info_right, table_as_told, block_on_granules, broken_unless}
 use Rattle.walks.specs.Find.{find}
 use Rattle.table.specs.declared.SixEntries.{SixEntries}
+use Rattle.rules.specs.declared.TableRule.TheVariants.{SixNamed, BootInfoAtZero, TablesAsTold, BlocksOnGranules}
 
 -- rules 8 to 11
 unfoldable pub six_right : Setting → List Entry → Bool
 six_right s es = six_named es && boot_info_at_0 es && tables_as_told s es && blocks_on_granules s es
 
 -- the end of `entries_fault`: rules 8 to 11
-unfoldable pub six_fault : Setting → List Entry → Fault
+unfoldable pub six_fault : Setting → List Entry → Option Fault
 six_fault s es =
     broken_unless SixNamed no_entry_number (six_named es)
     (broken_unless BootInfoAtZero (first_failing boot_info_right es) (boot_info_at_0 es)
