@@ -1,2 +1,1 @@
-mod Erasing
 mod Programs

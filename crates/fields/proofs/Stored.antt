@@ -1,9 +1,7 @@
 -- Bytes put at an offset one after the other. Assumes nothing.
-use Rattle.std.proofs.Common.{◌≡◌, ℕ, ◌+◌, ◌-◌, ◌≤◌, List, ◌++◌, length, take, drop, sym, ◌∙◌, append_assoc, arith}
+use Rattle.std.proofs.Common.{◌≡◌, ℕ, ◌+◌, ◌≤◌, List, ◌++◌, length, take, drop, sym, ◌∙◌, append_assoc, arith}
 use Rattle.std.proofs.lemmas.List.{length-append, length-drop, length-take, length-take-le, take-append-drop}
-use native.Mathlib.Nat.{add-sub_cancel_left}
 use lib.Seq.{take_at, drop_at, drop-drop}
-use borrow.Rule.Slice.PartMut.{put_mid}
 use Rattle.rules.specs.Bytes.{bytes_of}
 use Rattle.rules.specs.Final.{put_at}
 use Rattle.rules.proofs.Lists.Words.{length-bytes_of}
@@ -11,11 +9,6 @@ use Rattle.rules.proofs.Lists.Words.{length-bytes_of}
 pub length-put_at : (at : ℕ) (bs img : List ℕ) → at + length bs ≤ length img → length (put_at at bs img) ≡ length img
 unfolding put_at
 length-put_at at bs img h = simp (length-append, length-take, length-drop) (omega arith)
-
--- a part of the bytes, overwritten
-pub part_put : (at : ℕ) (bs img : List ℕ) → put_mid at (at + length bs - at) img bs ≡ put_at at bs img
-unfolding put_at
-part_put at bs img = rw (add-sub_cancel_left at (length bs), drop-drop)
 
 -- bytes put where bytes put before end
 put_at_then : (at : ℕ) (xs ys img : List ℕ)

@@ -34,6 +34,7 @@ pub fn le64(s: &[u8], at: usize) -> u64
 
 // One of four fields of 8 bytes has the value: the first at an offset, each of the others so far behind the one before.
 // The tests are joined by `|`, so that one branch serves all four.
+#[tactic(auto, unfolding(walks::specs::Four::one_of_four))]
 pub fn one_of_four(s: &[u8], at: usize, apart: usize, v: u64) -> bool
     requires { at + 3 * apart + 8 ≤ length s.now }
     ensures { result ≡ one_of_four (λ k. eqb (field (at + apart * k) 8 s.now) v) 0 }

@@ -34,7 +34,8 @@ pub fn store16(out: &mut [u8], at: usize, v: u64)
     store::<2>(out, at, v);
 }
 
-// The bytes given at an offset.
+// The bytes given at an offset, by the definitions' word for that, which the clauses of its callers say too.
+#[tactic(auto, unfolding(rules::specs::Final::put_at))]
 pub fn copy(out: &mut [u8], at: usize, given: &[u8])
     requires { at + length given.now ≤ length out.old }
     ensures { out.new ≡ put_at at given.now out.old }
@@ -48,8 +49,9 @@ pub fn copy_block(out: &mut [u8], at: usize, given: &[u8])
     requires { (length given.now ≡ block_size) × (at + block_size ≤ length out.old) }
     ensures { out.new ≡ put_at at given.now out.old }
 {
-    copy(out, at, &given[..HALF_BLOCK]);
-    copy(out, at + HALF_BLOCK, &given[HALF_BLOCK..]);
+    let (first, second) = given.split_at(HALF_BLOCK);
+    copy(out, at, first);
+    copy(out, at + HALF_BLOCK, second);
 }
 
 // Every byte the same.
