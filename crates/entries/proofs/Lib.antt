@@ -1,0 +1,2 @@
+mod Chunks
+pub mod Turns
