@@ -1,6 +1,6 @@
 -- One turn of a loop over entries by number, and the entry of a name by the number that a search finds. Assumes nothing.
 use mir.Val.{bool_byte}
-use Rattle.std.proofs.Common.{◌≡◌, refl, ◌∙◌, Bool, true, false, cond, List, ◌∷◌, ℕ, ◌+◌, ◌<◌, length, get_or, drop, drop-cons, add-one, le_refl, ◌≤◌, arith}
+use Rattle.std.proofs.Common.{◌≡◌, refl, ◌∙◌, Bool, true, false, cond, List, ◌∷◌, ℕ, ◌+◌, ◌-◌, ◌<◌, length, get_or, drop, drop-cons, add-one, le_refl, ◌≤◌, arith}
 use lib.ListN.{get_or-eq_default}
 use Rattle.rules.specs.Table.{Entry, no_entry, has_name, named}
 use Rattle.walks.specs.Find.{find}
@@ -26,3 +26,7 @@ one_if false = refl
 pub one_if_le : (b : Bool) → cond b 1 0 ≤ 1
 one_if_le true = omega arith
 one_if_le false = omega arith
+
+-- the same on the way down
+pub turn_down : (es : List Entry) (i : ℕ) → 0 < i → i ≤ length es → drop (i - 1) es ≡ get_or es (i - 1) no_entry ∷ drop i es
+turn_down es i some h = let e : i - 1 + 1 ≡ i = omega arith in rw e at (turn es (i - 1) (omega arith))

@@ -1,189 +1,188 @@
-// The application slots of a table, 4,096 bytes lent as a slice, of which the first n entries count.
+// The application slots of a table.
 #![tactic(auto)]
 
-ghost use Rattle.std.specs.Prelude.{◌≡◌, cond, ◌+◌, ◌≤◌, ◌<◌, length, drop};
-ghost use Rattle.rules.specs.Table.{entry_count, rows, entries, is_slot, slots};
+ghost use Rattle.std.specs.Prelude.{◌≡◌, ◌+◌, ◌≤◌, ◌<◌, length, drop};
+ghost use Rattle.rules.specs.Bytes.{block_size};
+ghost use Rattle.rules.specs.Table.{entry_count, entries, is_slot, slots};
 ghost use Rattle.rules.specs.Readers.{slot_row};
 ghost use Rattle.walks.specs.Find.{find};
 ghost use Rattle.walks.specs.Last.{last_from};
-ghost use Rattle.walks.specs.Entries.{HasEntries, HasEntry, entry_at, slot_from};
-ghost use Rattle.slots.specs.Inner.RowsOf.{slots_before, rows_of, HasRows};
+ghost use Rattle.walks.specs.Entries.{HasEntries, slot_from};
+ghost use Rattle.entries.specs.Tests.{Found};
+ghost use Rattle.slots.specs.Inner.RowsOf.{slots_before};
 
+use entries::{Entries, Entry};
 use rules::{EntryNo, SlotNo};
-
-// The rows of a table: how many entries count; the entry from which on all of them are slots; how many slots come before
-// it. A table has its slots last as a rule, so that most slot numbers follow from entry numbers without a count.
-#[derive(Clone, Copy)]
-pub struct Rows {
-    pub count: usize,
-    pub from: EntryNo,
-    pub before: usize,
-}
+use std::marker::Model;
 
 // ---- one entry
 
 // The entry is an application slot: flag bits 0 and 1 clear and a name other than the six.
-pub fn is_slot(table: &[u8], e: EntryNo) -> bool
-    requires { HasEntry table.now e.0 }
-    ensures { result ≡ is_slot (entry_at table.now e.0) }
+#[tactic(auto, unfolding(rules::specs::Table::is_slot, rules::specs::Bytes::multiple, rules::specs::Table::name))]
+pub fn is_slot(e: &Entry<'_>) -> bool
+    ensures { result ≡ is_slot e.now }
 {
-    if entries::entry_flags(table, e) % 4 != 0 {
-        return false;
-    }
-    !names::is_fixed_name(entries::entry_name(table, e))
-}
-
-// ---- all entries
-
-// How many of the first n entries are slots.
-pub fn count_slots(table: &[u8], n: usize) -> usize
-    requires { HasEntries table.now n }
-    ensures { (result ≡ length (slots (rows n table.now))) × (result ≤ n) }
-{
-    let mut met = 0;
-    let mut i = 0;
-    while i < n {
-        met += one_if(is_slot(table, EntryNo(i)));
-        i += 1;
-    }
-    met
-}
-
-// The number of the first of n entries that is a slot and starts there; n where none does.
-pub fn find_slot(table: &[u8], n: usize, start: u64) -> EntryNo
-    requires { HasEntries table.now n }
-    ensures found { result.0 ≡ find (slot_from start) (rows n table.now) }
-    ensures within { result.0 ≤ n }
-{
-    let mut i = none_before(table, n, start).0;
-    while i < n {
-        if is_slot_from(table, EntryNo(i), start) {
-            return EntryNo(i);
-        }
-        i += 1;
-    }
-    EntryNo(n)
-}
-
-// The entry from which on to look for the slot, found four entries at a time: none before it starts there.
-fn none_before(table: &[u8], n: usize, start: u64) -> EntryNo
-    requires { HasEntries table.now n }
-    ensures found { find (slot_from start) (rows n table.now)
-        ≡ result.0 + find (slot_from start) (drop result.0 (rows n table.now)) }
-    ensures within { result.0 ≤ n }
-{
-    let mut i = 0;
-    while i + 4 <= n {
-        if entries::starts_in_four(table, EntryNo(i), start) {
-            return EntryNo(i);
-        }
-        i += 4;
-    }
-    EntryNo(i)
-}
-
-// The entry number of a slot; n where there is no such slot.
-pub fn slot_row(table: &[u8], n: usize, slot: SlotNo) -> EntryNo
-    requires { HasEntries table.now n }
-    ensures found { result.0 ≡ slot_row (rows n table.now) slot.0 }
-    ensures within { result.0 ≤ n }
-{
-    let mut left = slot.0 as usize;
-    let mut i = 0;
-    while i < n {
-        let met = is_slot(table, EntryNo(i));
-        if met & (left == 0) {
-            return EntryNo(i);
-        }
-        left -= one_if(met);
-        i += 1;
-    }
-    EntryNo(n)
+    e.flags() % 4 == 0 && !names::is_fixed_name(e.name())
 }
 
 // The entry is a slot that starts there. The start is compared first: most entries differ in it, and the names, of
 // which `is_slot` compares six, then need no look.
-fn is_slot_from(table: &[u8], e: EntryNo, start: u64) -> bool
-    requires { HasEntry table.now e.0 }
-    ensures { result ≡ slot_from start (entry_at table.now e.0) }
+#[tactic(auto, unfolding(walks::specs::Entries::slot_from))]
+fn is_slot_from(e: &Entry<'_>, start: u64) -> bool
+    ensures { result ≡ slot_from start e.now }
 {
-    if entries::entry_start(table, e) != start {
-        return false;
-    }
-    is_slot(table, e)
+    e.start() == start && is_slot(e)
 }
 
-fn one_if(test: bool) -> usize
-    ensures { (result ≡ cond test 1 0) × (result ≤ 1) }
+// ---- all entries
+
+// How many of the entries are slots.
+#[tactic(auto, unfolding(rules::specs::Table::slots))]
+pub fn count_slots(entries: &Entries<'_>) -> usize
+    ensures { (result ≡ length (slots entries.now)) × (result ≤ length entries.now) }
 {
-    if test {
-        return 1;
-    }
-    0
+    entries.count(|e| is_slot(e))
 }
 
-// ---- the slots at the end
-
-// The rows of a table, of which all entries count that it says it has.
-pub fn rows_of(table: &[u8]) -> Rows
-    requires { HasEntries table.now (entry_count table.now) }
-    ensures { result ≡ rows_of table.now }
+// The first slot that starts there.
+pub fn find_slot(entries: &Entries<'_>, start: u64) -> Option<EntryNo>
+    ensures { Found entries.now (find (slot_from start) entries.now) result }
 {
-    let n = entries::entry_count(table);
-    let from = last_from(table, n);
-    Rows {
-        count: n,
-        from: from,
-        before: count_slots(table, from.0),
-    }
-}
-
-// The lowest of the first n entries from which on all are slots; n where the last is none.
-fn last_from(table: &[u8], n: usize) -> EntryNo
-    requires { HasEntries table.now n }
-    ensures found { result.0 ≡ last_from is_slot (rows n table.now) }
-    ensures within { result.0 ≤ n }
-{
-    let mut i = n;
-    while 0 < i {
-        if !is_slot(table, EntryNo(i - 1)) {
-            return EntryNo(i);
+    for i in none_before(entries, start)..entries.len() {
+        if is_slot_from(&entries.get(EntryNo(i)), start) {
+            return Some(EntryNo(i));
         }
-        i -= 1;
+    }
+    None
+}
+
+// The number of the entry from which on to look for the slot, found four entries at a time: none before it starts there.
+fn none_before(entries: &Entries<'_>, start: u64) -> usize
+    ensures found { find (slot_from start) entries.now
+        ≡ result + find (slot_from start) (drop result entries.now) }
+    ensures within { result ≤ length entries.now }
+{
+    let n = entries.len();
+    let mut i = 0;
+    while i + 4 <= n {
+        if entries.starts_in_four(EntryNo(i), start) {
+            return i;
+        }
+        i += 4;
+    }
+    i
+}
+
+// The entry of a slot.
+pub fn slot_row(entries: &Entries<'_>, slot: SlotNo) -> Option<EntryNo>
+    ensures { Found entries.now (slot_row entries.now slot.0) result }
+{
+    let mut left = slot.0 as usize;
+    for i in 0..entries.len() {
+        let met = is_slot(&entries.get(EntryNo(i)));
+        if met & (left == 0) {
+            return Some(EntryNo(i));
+        }
+        left -= usize::from(met);
+    }
+    None
+}
+
+// The lowest number from which on all entries are slots; the number of entries where the last is none.
+fn last_from(entries: &Entries<'_>) -> EntryNo
+    ensures found { result.0 ≡ last_from is_slot entries.now }
+    ensures within { result.0 ≤ length entries.now }
+{
+    for i in (0..entries.len()).rev() {
+        if !is_slot(&entries.get(EntryNo(i))) {
+            return EntryNo(i + 1);
+        }
     }
     EntryNo(0)
 }
 
-// The number of the slot at an entry: as many slots come before it.
-pub fn slot_at(table: &[u8], rows: Rows, e: EntryNo) -> SlotNo
-    requires { HasRows table.now rows × (e.0 < rows.count) }
-    ensures { result.0 ≡ slots_before table.now e.0 }
-{
-    if rows.from.0 <= e.0 {
-        let further = e.0 - rows.from.0;
-        return SlotNo((rows.before + further) as u32);
-    }
-    SlotNo(count_slots(table, e.0) as u32)
+// ---- a table
+
+// A lent table of which all entries count that it says it has, with what slot numbers follow from: the entry from which on
+// all are slots, and how many slots come before it. A table has its slots last as a rule, so that most slot numbers follow
+// from entry numbers without a count.
+#[derive(Drop)]
+pub struct Table<'a> {
+    bytes: &'a [u8],
+    entries: Entries<'a>,
+    from: EntryNo,
+    before: usize,
 }
 
-// How many slots there are: those before, and the entries from there on.
-pub fn slot_total(table: &[u8], rows: Rows) -> usize
-    requires { HasRows table.now rows }
-    ensures { (result ≡ length (slots (entries table.now))) × (result ≤ rows.count) }
-{
-    rows.before + (rows.count - rows.from.0)
+impl<'a> Model for Table<'a> {
+    ghost use Rattle.std.specs.Prelude.{List, ℕ};
+    ghost use Rattle.slots.specs.Inner.RowsOf.{HasRows};
+
+    ghost Value = { List ℕ };
+
+    ghost view = { λ t. t.bytes.now };
+
+    ghost invariant = { λ t. HasRows t.bytes.now t.entries t.from.0 t.before };
 }
 
-// The entry number of a slot; the count of entries where there is no such slot.
-pub fn row_of(table: &[u8], rows: Rows, slot: SlotNo) -> EntryNo
-    requires { HasRows table.now rows }
-    ensures found { result.0 ≡ slot_row (entries table.now) slot.0 }
-    ensures within { result.0 ≤ rows.count }
-{
-    let number = slot.0 as usize;
-    if (rows.before <= number) & (number < slot_total(table, rows)) {
-        let further = number - rows.before;
-        return EntryNo(rows.from.0 + further);
+impl<'a> Table<'a> {
+    pub fn new(bytes: &'a [u8]) -> Table<'a>
+        requires { HasEntries bytes.now (entry_count bytes.now) }
+        ensures { result ≡ bytes.now }
+    {
+        let entries = Entries::counted(bytes);
+        let from = last_from(&entries);
+        let before = count_slots(&entries.before(from));
+        Table {
+            bytes,
+            entries,
+            from,
+            before,
+        }
     }
-    slot_row(table, rows.count, slot)
+
+    // The 4,096 bytes.
+    pub fn bytes(&self) -> &'a [u8]
+        ensures { (result.now ≡ self.now) × (length result.now ≡ block_size) }
+    {
+        self.bytes
+    }
+
+    // The entries that count.
+    pub fn entries(&self) -> &Entries<'a>
+        ensures { result.now ≡ entries self.now }
+    {
+        &self.entries
+    }
+
+    // The number of the slot at an entry: as many slots come before it.
+    pub fn slot_at(&self, e: EntryNo) -> SlotNo
+        requires { e.0 < length (entries self.now) }
+        ensures { result.0 ≡ slots_before self.now e.0 }
+    {
+        if self.from.0 <= e.0 {
+            let further = e.0 - self.from.0;
+            return SlotNo((self.before + further) as u32);
+        }
+        SlotNo(count_slots(&self.entries.before(e)) as u32)
+    }
+
+    // How many slots there are: those before, and the entries from there on.
+    pub fn slot_total(&self) -> usize
+        ensures { (result ≡ length (slots (entries self.now))) × (result ≤ length (entries self.now)) }
+    {
+        self.before + (self.entries.len() - self.from.0)
+    }
+
+    // The entry of a slot.
+    pub fn row_of(&self, slot: SlotNo) -> Option<EntryNo>
+        ensures { Found (entries self.now) (slot_row (entries self.now) slot.0) result }
+    {
+        let number = slot.0 as usize;
+        if (self.before <= number) & (number < self.slot_total()) {
+            let further = number - self.before;
+            return Some(EntryNo(self.from.0 + further));
+        }
+        slot_row(&self.entries, slot)
+    }
 }

@@ -1,13 +1,7 @@
-use mathlib.Core.Path.{◌≡◌}
-use mathlib.Core.Bool.{true}
-use Prim.Native.Nat.{◌≤◌}
-use lib.ListN.{drop}
+use Rattle.std.proofs.Common.{◌≡◌, ◌≤◌, true, length, drop}
 use Rattle.rules.specs.Lists.{all}
-use Rattle.rules.specs.Table.{rows, is_slot}
+use Rattle.rules.specs.Table.{is_slot}
 use Rattle.slots.proofs.last_from.Given as goal
 
 abbrev pub invariant-loop-i : goal.invariant-loop-i
-invariant-loop-i l = (l.i ≤ l.n) × (all is_slot (drop l.i (rows l.n l.table)) ≡ true)
-
-abbrev pub decreases-loop-i : goal.decreases-loop-i
-decreases-loop-i l = l.i
+invariant-loop-i l = (l.i ≤ length l.entries) × (all is_slot (drop l.i l.entries) ≡ true)
