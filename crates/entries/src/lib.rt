@@ -51,21 +51,21 @@ impl<'a> Entry<'a> {
     pub fn start(&self) -> u64
         ensures { result ≡ self.now.start }
     {
-        fields::le64(self.bytes, 16)
+        fields::number::<8>(self.bytes, 16)
     }
 
     #[tactic(auto, unfolding(rules::specs::Table::entry))]
     pub fn size(&self) -> u64
         ensures { result ≡ self.now.size }
     {
-        fields::le32(self.bytes, 24)
+        fields::number::<4>(self.bytes, 24)
     }
 
     #[tactic(auto, unfolding(rules::specs::Table::entry))]
     pub fn flags(&self) -> u64
         ensures { result ≡ self.now.flags }
     {
-        fields::le32(self.bytes, 28)
+        fields::number::<4>(self.bytes, 28)
     }
 
     // The entry has that name, both up to their zero bytes. The first byte decides for most.
@@ -213,5 +213,5 @@ pub fn entry_count(table: &[u8]) -> usize
     requires { length table.now ≡ block_size }
     ensures { result ≡ entry_count table.now }
 {
-    fields::le32(table, 8) as usize
+    fields::number::<4>(table, 8) as usize
 }
