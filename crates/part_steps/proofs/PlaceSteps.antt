@@ -17,7 +17,7 @@ use Rattle.rules.specs.Cuts.{inside}
 use Rattle.part_steps.specs.Parts.{numbers_from, first_step}
 use Rattle.part_steps.specs.Inner.Windows.{chosen, beyond, programs_inside, places_inside}
 use Rattle.part_steps.specs.declared.windows.Window.{Window}
-use Rattle.part_steps.specs.declared.Next.TheVariants.{Finished}
+use Rattle.std.specs.Prelude.{None}
 use Rattle.part_steps.proofs.Splits.{all_split, steps_split, first_left, first_right}
 use Rattle.part_steps.proofs.PlaceNumbers.{length_numbers, number_at}
 use Rattle.part_steps.proofs.ProgramSteps.{length-programs, inside-programs}
@@ -115,7 +115,7 @@ module _ (a offset : ℕ) (v : List ℕ) (eight : length v ≡ 8) where
       (sym (next_place k (numbers_from n bs) (rw (length_numbers n bs) (omega arith))))
 
   pub no_next_place : (k : ℕ) (ks : List ℕ) → 8 * length ks ≤ k → first_step (drop k (into_places a offset v ks))
-      ≡ Finished
+      ≡ None
   unfolding first_step
   no_next_place k ks h = rw (drop_of_length-le (into_places a offset v ks) {i = k} (rw (length_places ks) h))
 

@@ -20,7 +20,7 @@ use Rattle.part_steps.specs.Parts.{first_step}
 use Rattle.part_steps.specs.Inner.Windows.{chosen, programs_inside}
 use Rattle.part_steps.specs.declared.windows.Window.{Window}
 use Rattle.part_steps.proofs.Splits.{take_least}
-use Rattle.part_steps.specs.declared.Next.TheVariants.{Is, Finished}
+use Rattle.std.specs.Prelude.{Some, None}
 
 pub length-programs : (a : ℕ) (bs : List ℕ) → length (programs a bs) ≡ length bs
 unfolding programs
@@ -110,10 +110,10 @@ bytes_inside len a n k t h = from (or_true (leb n k) (leb (a + n) len) t)
 -- ---- the next of them
 
 pub next_some : (a : ℕ) (bs : List ℕ) (k : ℕ) → k < length bs
-    → first_step (drop k (programs a bs)) ≡ Is (Program (a + k) (get_or bs k 0))
+    → first_step (drop k (programs a bs)) ≡ Some (Program (a + k) (get_or bs k 0))
 unfolding first_step programs
 next_some a bs k h = rw (drop-programs k a bs, drop-cons bs k 0 h)
 
-pub next_none : (a : ℕ) (bs : List ℕ) (k : ℕ) → length bs ≤ k → first_step (drop k (programs a bs)) ≡ Finished
+pub next_none : (a : ℕ) (bs : List ℕ) (k : ℕ) → length bs ≤ k → first_step (drop k (programs a bs)) ≡ None
 unfolding first_step
 next_none a bs k h = rw (drop_of_length-le (programs a bs) {i = k} (rw length-programs h))

@@ -20,7 +20,7 @@ use Rattle.rules.specs.declared.Step.TheVariants.{Program, Erase}
 use Rattle.part_steps.specs.Parts.{first_step}
 use Rattle.part_steps.specs.Inner.Windows.{chosen, beyond, rest_size, erase_inside, programs_inside, rewrite_inside}
 use Rattle.part_steps.specs.declared.windows.Window.{Window}
-use Rattle.part_steps.specs.declared.Next.TheVariants.{Is}
+use Rattle.std.specs.Prelude.{Some}
 use Rattle.part_steps.proofs.Splits.{all_split, steps_joined, first_left, first_right}
 use Rattle.part_steps.proofs.ProgramSteps.{length-programs, inside-programs, next_some}
 
@@ -150,7 +150,7 @@ module _ (a : ℕ) (b : List ℕ) (sized : length b ≡ block_size) where
       steps_joined g w written zeros (Erase a ∷ (upward ++ magic)) img zeroed after (ew ∙ rw length-zeros) ez
       from_the_erase
 
-  pub next_zero : (k : ℕ) → k < 4 → first_step (drop k (rewrite a b)) ≡ Is (Program (a + k) 0)
+  pub next_zero : (k : ℕ) → k < 4 → first_step (drop k (rewrite a b)) ≡ Some (Program (a + k) 0)
   unfolding rewrite
   next_zero k h =
       first_left k zeros (Erase a ∷ (upward ++ magic)) (rw length-zeros h)
@@ -163,7 +163,7 @@ module _ (a : ℕ) (b : List ℕ) (sized : length b ≡ block_size) where
   unfolding rewrite
   next_written k h = first_right k zeros (Erase a ∷ (upward ++ magic)) (rw length-zeros h) ∙ rw length-zeros
 
-  pub next_erase : first_step (drop 4 (rewrite a b)) ≡ Is (Erase a)
+  pub next_erase : first_step (drop 4 (rewrite a b)) ≡ Some (Erase a)
   unfolding first_step
   next_erase = next_written 4 (omega arith)
 

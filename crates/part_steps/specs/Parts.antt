@@ -1,9 +1,7 @@
 -- What a job's definitions rest on: the places' numbers that it holds, and the first of some steps. Assumes nothing.
-use Rattle.std.specs.Prelude.{List, [], ◌∷◌, ℕ, zero, suc, min, drop}
+use Rattle.std.specs.Prelude.{List, [], ◌∷◌, ℕ, zero, suc, min, drop, Option, None, Some}
 use Rattle.rules.specs.Bytes.{field}
 use Rattle.rules.specs.declared.Step.{Step}
-use Rattle.part_steps.specs.declared.Next.{Next}
-use Rattle.part_steps.specs.declared.Next.TheVariants.{Is, Finished}
 
 -- the room for places' numbers in a job
 abbrev pub place_room : ℕ
@@ -19,6 +17,6 @@ abbrev pub meant : ℕ → List ℕ → List ℕ
 meant count ks = numbers_from (min count place_room) ks
 
 -- the step that comes next
-unfoldable pub first_step : List Step → Next
-first_step [] = Finished
-first_step (s ∷ ss) = Is s
+unfoldable pub first_step : List Step → Option Step
+first_step [] = None
+first_step (s ∷ ss) = Some s

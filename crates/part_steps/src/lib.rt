@@ -2,16 +2,7 @@
 // which comes next.
 #![tactic(auto)]
 
-use rules::Step;
-
 pub mod into_places; // eight bytes into each of some places
 mod programs;
 pub mod rewriting; // a block rewritten
 pub mod windows; // of some steps, those from one on
-
-// The step that comes next.
-#[derive(Clone, Copy)]
-pub enum Next {
-    Is(Step),
-    Finished,
-}

@@ -5,8 +5,8 @@ ghost use Rattle.rules.specs.Steps.{steps, programs};
 ghost use Rattle.part_steps.specs.Parts.{first_step};
 ghost use Rattle.part_steps.specs.Inner.Windows.{highest_address, programs_inside, chosen, beyond};
 
+use super::windows;
 use super::windows::Window;
-use super::{Next, windows};
 use fields::bounds;
 use rules::Step;
 
@@ -23,25 +23,24 @@ pub fn do_range(image: &mut [u8], at: usize, given: &[u8], window: Window) -> Wi
     if size <= from {
         return rest;
     }
-    let m = bounds::min(window.n, size - from);
+    let m = window.n.min(size - from);
     device::program(image, at + from, &given[from..from + m]);
     rest
 }
 
 // So many of these steps reach nothing outside an image of that length.
+#[tactic(auto, unfolding(crate::specs::Inner::Windows::programs_inside))]
 pub fn are_inside(len: usize, at: usize, size: usize, from: usize) -> bool
     ensures { result ≡ programs_inside len at size from }
 {
-    (size <= from) | fields::bounds::ends_by(at as u64, size as u64, len as u64)
+    size <= from || bounds::ends_by(at as u64, size as u64, len as u64)
 }
 
 // The first of them.
-pub fn next_program(at: usize, given: &[u8], from: usize) -> Next
+pub fn next_program(at: usize, given: &[u8], from: usize) -> Option<Step>
     requires { (at ≤ highest_address) × (length given.now ≤ block_size) }
     ensures { result ≡ first_step (drop from (programs at given.now)) }
 {
-    if given.len() <= from {
-        return Next::Finished;
-    }
-    Next::Is(Step::Program(at + from, given[from]))
+    let byte = given.get(from)?;
+    Some(Step::Program(at + from, *byte))
 }

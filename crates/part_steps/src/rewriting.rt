@@ -1,18 +1,43 @@
 // A block rewritten: of these steps, those from one on.
-ghost use Rattle.std.specs.Prelude.{◌≡◌, true, [], ◌∷◌, ◌+◌, ◌≤◌, length, drop};
-ghost use Rattle.rules.specs.Bytes.{block_size};
-ghost use Rattle.rules.specs.Steps.{steps, rewrite};
+ghost use Rattle.std.specs.Prelude.{◌≡◌, true, [], ◌∷◌, ◌≤◌, length, drop};
+ghost use Rattle.rules.specs.Lists.{all};
+ghost use Rattle.rules.specs.Steps.{steps};
+ghost use Rattle.rules.specs.Cuts.{inside};
 ghost use Rattle.rules.specs.declared.Step.TheVariants.{Erase};
 ghost use Rattle.part_steps.specs.Parts.{first_step};
 ghost use Rattle.part_steps.specs.Inner.Windows.{highest_address, erase_inside, rewrite_inside, chosen, beyond};
 
 use super::windows::Window;
-use super::{Next, programs, windows};
+use super::{programs, windows};
 use fields::bounds;
 use rules::Step;
+use std::marker::Model;
+
+// How many steps a rewrite has: four zeros, the erase and a byte each.
+pub const STEPS: usize = 5 + rules::BLOCK_SIZE;
 
 // The bytes after the magic.
-const REST_SIZE: usize = 4092;
+const REST_SIZE: usize = rules::BLOCK_SIZE - 4;
+
+// A block rewritten at an address, as its steps.
+#[derive(Drop)]
+pub struct Rewriting<'a> {
+    pub at: u32,
+    pub block: &'a [u8; rules::BLOCK_SIZE],
+}
+
+impl<'a> Model for Rewriting<'a> {
+    ghost use Rattle.std.specs.Prelude.{◌≡◌, List, length};
+    ghost use Rattle.rules.specs.Bytes.{block_size};
+    ghost use Rattle.rules.specs.declared.Step.{Step};
+    ghost use Rattle.rules.specs.Steps.{rewrite};
+
+    ghost Value = { List Step };
+
+    ghost view = { λ r. rewrite r.at r.block.now };
+
+    ghost invariant = { λ r. length r.block.now ≡ block_size };
+}
 
 fn do_erase(image: &mut [u8], at: usize, granule: usize, window: Window) -> Window
     requires { erase_inside granule (length image.old) at window.from ≡ true }
@@ -27,46 +52,71 @@ fn do_erase(image: &mut [u8], at: usize, granule: usize, window: Window) -> Wind
     rest
 }
 
-// Do those in a window: zeros over the magic, the erase, the bytes after the magic, the magic.
-pub fn do_rewrite(image: &mut [u8], at: usize, granule: usize, block: &[u8], window: Window)
-    requires { ((length block.now ≡ block_size) × (at ≤ highest_address))
-        × (rewrite_inside granule (length image.old) at window.from ≡ true) }
-    ensures { image.new ≡ steps granule (chosen window (rewrite at block.now)) image.old }
+#[tactic(auto, unfolding(crate::specs::Inner::Windows::erase_inside))]
+fn erase_is_inside(granule: usize, len: usize, at: usize, from: usize) -> bool
+    ensures { result ≡ erase_inside granule len at from }
 {
-    let zeros = [0u8; 4];
-    let after = programs::do_range(image, at, &zeros, window);
-    let rest = do_erase(image, at, granule, after);
-    let last = programs::do_range(image, at + 4, &block[4..], rest);
-    programs::do_range(image, at, &block[..4], last);
+    1 <= from || bounds::ends_by(at as u64, granule as u64, len as u64)
 }
 
-// These steps reach nothing outside an image of that length.
-pub fn is_inside(granule: usize, len: usize, at: usize, from: usize) -> bool
+#[tactic(auto, unfolding(crate::specs::Inner::Windows::rewrite_inside))]
+fn is_inside(granule: usize, len: usize, at: usize, from: usize) -> bool
     requires { at ≤ highest_address }
     ensures { result ≡ rewrite_inside granule len at from }
 {
-    let after = bounds::saturating_sub(from, 4);
-    let skip = bounds::saturating_sub(after, 1);
+    let after = from.saturating_sub(4);
+    let skip = after.saturating_sub(1);
     programs::are_inside(len, at, 4, from)
-        & (((1 <= after) | fields::bounds::ends_by(at as u64, granule as u64, len as u64))
-            & (programs::are_inside(len, at + 4, REST_SIZE, skip)
-                & programs::are_inside(len, at, 4, bounds::saturating_sub(skip, REST_SIZE))))
+        && erase_is_inside(granule, len, at, after)
+        && programs::are_inside(len, at + 4, REST_SIZE, skip)
+        && programs::are_inside(len, at, 4, skip.saturating_sub(REST_SIZE))
 }
 
-// The first of them.
-pub fn next_in_rewrite(at: usize, block: &[u8], from: usize) -> Next
-    requires { (length block.now ≡ block_size) × (at + 4 ≤ highest_address) }
-    ensures { result ≡ first_step (drop from (rewrite at block.now)) }
-{
-    if from < 4 {
-        return Next::Is(Step::Program(at + from, 0));
+impl<'a> Rewriting<'a> {
+    // How many there are.
+    pub fn step_count(&self) -> usize
+        ensures { (result ≡ length self.now) × (result ≡ 4101) }
+    {
+        let _ = &self.block;
+        STEPS
     }
-    if from == 4 {
-        return Next::Is(Step::Erase(at));
+
+    // Do those in a window: zeros over the magic, the erase, the bytes after the magic, the magic.
+    pub fn run(&self, image: &mut [u8], granule: usize, window: Window)
+        requires { all (inside granule (length image.old)) (drop window.from self.now) ≡ true }
+        ensures { image.new ≡ steps granule (chosen window self.now) image.old }
+    {
+        let at = self.at as usize;
+        let block = self.block;
+        let after = programs::do_range(image, at, &[0; 4], window);
+        let rest = do_erase(image, at, granule, after);
+        let last = programs::do_range(image, at + 4, &block[4..], rest);
+        programs::do_range(image, at, &block[..4], last);
     }
-    let skip = from - 5;
-    if skip < REST_SIZE {
-        return programs::next_program(at + 4, &block[4..], skip);
+
+    // Those from one on reach nothing outside an image of that length.
+    pub fn are_inside(&self, granule: usize, len: usize, from: usize) -> bool
+        ensures { result ≡ all (inside granule len) (drop from self.now) }
+    {
+        is_inside(granule, len, self.at as usize, from)
     }
-    programs::next_program(at, &block[..4], skip - REST_SIZE)
+
+    // The first of those from one on.
+    pub fn next(&self, from: usize) -> Option<Step>
+        ensures { result ≡ first_step (drop from self.now) }
+    {
+        let at = self.at as usize;
+        let block = self.block;
+        if from < 4 {
+            return Some(Step::Program(at + from, 0));
+        }
+        if from == 4 {
+            return Some(Step::Erase(at));
+        }
+        let skip = from - 5;
+        if skip < REST_SIZE {
+            return programs::next_program(at + 4, &block[4..], skip);
+        }
+        programs::next_program(at, &block[..4], skip - REST_SIZE)
+    }
 }

@@ -2,20 +2,19 @@
 ghost use Rattle.std.specs.Prelude.{◌≡◌};
 ghost use Rattle.part_steps.specs.Inner.Windows.{beyond};
 
-use fields::bounds;
-
-#[derive(Clone, Copy)]
+#[derive(Clone, Copy, PartialEq, Eq, Debug)]
 pub struct Window {
     pub from: usize,
     pub n: usize,
 }
 
 // What of a window lies beyond so many steps.
+#[tactic(auto, unfolding(crate::specs::Inner::Windows::beyond))]
 pub fn beyond(window: Window, size: usize) -> Window
     ensures { result ≡ beyond size window }
 {
     Window {
-        from: bounds::saturating_sub(window.from, size),
-        n: bounds::saturating_sub(window.n, bounds::saturating_sub(size, window.from)),
+        from: window.from.saturating_sub(size),
+        n: window.n.saturating_sub(size.saturating_sub(window.from)),
     }
 }

@@ -2,6 +2,7 @@
 use mathlib.Core.Path.{◌∙◌}
 use native.Mathlib.Omega.{arith}
 use lib.ListN.{length}
+use borrow.Author.Rules.{rules}
 use Rattle.part_steps.proofs.ProgramSteps.{bytes_inside, all_chosen}
 use Rattle.part_steps.proofs.PlaceSteps.{place_asked}
 use Rattle.part_steps.proofs.into_places.do_place.Goals as goal
@@ -10,21 +11,10 @@ pub program_eight-requires : goal.program_eight-requires
 program_eight-requires c =
     let a = c.args in
     let asked = place_asked a.window.from a.window.n c.if-window.true in
-    (c.requires.0, bytes_inside (length a.image.now) a.at 8 a.window.from c.requires.1 (omega (arith, asked.0)))
+    (search rules, bytes_inside (length a.image.now) a.at 8 a.window.from c.requires (omega (arith, asked.0)))
 
-pub returns-then-window : goal.returns-then-window
-returns-then-window c =
+pub returns-then-window-clause-by_index : goal.returns-then-window-clause-by_index
+returns-then-window-clause-by_index c =
     let a = c.args in
-    let asked = place_asked a.window.from a.window.n c.if-window.true in record {
-      value = c.beyond.ensures;
-      by_index = λ g. c.program_eight.ensures g
-          ∙ rw (all_chosen a.window a.at a.value.now asked.0 (omega (arith, asked.1, c.requires.0)));
-    }
-
-pub do_range-requires : goal.do_range-requires
-do_range-requires c =
-    rw c.requires.0 c.requires.1
-
-pub returns : goal.returns
-returns c =
-    record { value = c.do_range.ensures.value ∙ rw c.requires.0; by_index = c.do_range.ensures.by_index }
+    let asked = place_asked a.window.from a.window.n c.if-window.true in
+    λ g. c.program_eight.ensures g ∙ rw (all_chosen a.window a.at a.value.now asked.0 (omega (arith, asked.1)))
