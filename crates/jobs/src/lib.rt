@@ -3,19 +3,16 @@
 #![tactic(auto)]
 
 ghost use Rattle.std.specs.Prelude.{◌≡◌, ◌-◌};
-ghost use Rattle.jobs.specs.Jobs.{RanBy, returned, lent, did_by_run, image_after_run, steps_left, next_of, counted, counting};
-ghost use Rattle.job_parts.specs.Inner.Parts.{Sized, listed_length};
+ghost use Rattle.jobs.specs.Jobs.{RanBy, after_call, steps_left, next_of, counted, counting};
+ghost use Rattle.job_parts.specs.Inner.Parts.{listed_length};
 ghost use Rattle.jobs.specs.Inner.Countable.{Countable};
 
-use fields::bounds;
-use job_parts::Plan;
-use part_steps::windows::Window;
-use rules::Refusal;
-use rules::refusals::{NO_STEPS_LEFT, OUTSIDE_IMAGE};
-pub use part_steps::Next; // the step that comes next
+pub mod lending; // a job whose arrays are lent
 
-// The room for places' numbers in a job: two bytes for each place that a pointer block may have.
-pub const PLACES_SIZE: usize = 2 * rules::MOST_PLACES;
+use job_parts::Plan;
+use lending::LentJob;
+pub use part_steps::into_places::PLACES_SIZE; // the room for places' numbers
+use rules::{Refusal, Step};
 
 // A job: its plan, how many steps are done, a block for each part, the places' numbers of two bytes each, lowest byte
 // first, and the bytes for the places.
@@ -29,150 +26,68 @@ pub struct Job {
     pub value: [u8; 8],
 }
 
-// What a run did: so many steps, or a refusal.
-#[derive(Clone, Copy)]
-pub enum Did {
-    Steps(usize),
-    Refused(Refusal),
-}
-
-#[derive(Clone, Copy)]
-pub struct Ran {
-    pub job: Job,
-    pub did: Did,
-}
-
-// Does as many steps as the budget says, or all that remain.
-pub fn run(job: Job, image: &mut [u8], budget: usize) -> Ran
-    ensures { RanBy job budget image.old result image.new }
-{
-    let plan = job.plan;
-    let done = job.done;
-    let first = job.first;
-    let second = job.second;
-    let places = job.places;
-    let value = job.value;
-    let did = run_in_place(plan, done, &first, &second, &places, &value, image, budget);
-    returned(job, did)
-}
-
-// The job with what was done counted.
-fn returned(job: Job, did: Did) -> Ran
-    requires { Countable job.done did }
-    ensures { result ≡ returned job did }
-{
-    match did {
-        Did::Refused(why) => Ran {
-            job,
-            did: Did::Refused(why),
-        },
-        Did::Steps(n) => {
-            let mut next = job;
-            next.done = job.done + n;
-            Ran {
-                job: next,
-                did: Did::Steps(n),
-            }
+impl Job {
+    // The same, its arrays lent, so that none is copied.
+    pub fn lent(&self) -> LentJob<'_>
+        ensures { result ≡ self.now }
+    {
+        LentJob {
+            plan: self.plan,
+            done: self.done,
+            first: &self.first,
+            second: &self.second,
+            places: &self.places,
+            value: &self.value,
         }
     }
-}
 
-// The same of a job whose arrays are lent, so that none is copied: only what it did and the image.
-pub fn run_in_place<'a>(
-    plan: Plan,
-    done: usize,
-    first: &'a [u8],
-    second: &'a [u8],
-    places: &'a [u8],
-    value: &'a [u8],
-    image: &mut [u8],
-    budget: usize,
-) -> Did
-    requires { (Sized first.now places.now value.now) × (Sized second.now places.now value.now) }
-    ensures { (result
-        ≡ did_by_run
-        (lent plan done first.now second.now places.now value.now)
-        budget image.old)
-        × (image.new
-        ≡ image_after_run
-        (lent plan done first.now second.now places.now value.now)
-        budget image.old) }
-{
-    let count = job_parts::step_count(plan);
-    if count <= done {
-        return Did::Refused(NO_STEPS_LEFT);
+    // Does as many steps as the budget says, or all that remain: how many.
+    pub fn run(&mut self, image: &mut [u8], budget: usize) -> Result<usize, Refusal>
+        ensures { RanBy self.old budget image.old (after_call self.new result) image.new }
+    {
+        let n = self.lent().run(image, budget)?;
+        self.done += n;
+        Ok(n)
     }
-    if (image.len() != plan.len) | !job_parts::steps_inside(plan, places, done, image.len()) {
-        return Did::Refused(OUTSIDE_IMAGE);
+
+    // How many steps remain.
+    pub fn remaining(&self) -> usize
+        ensures { result ≡ steps_left self.now }
+    {
+        remaining_of(self.plan, self.done)
     }
-    let window = Window {
-        from: done,
-        n: budget,
-    };
-    job_parts::do_steps(plan, first, second, places, value, window, image);
-    Did::Steps(bounds::min(budget, count - done))
+
+    // Which step comes next.
+    pub fn next_step(&self) -> Option<Step>
+        ensures { result ≡ next_of self.now }
+    {
+        self.lent().next_step()
+    }
+
+    // Counts steps that were carried out elsewhere, in their order: so many, or all that remain.
+    pub fn advance(&mut self, n: usize) -> Result<usize, Refusal>
+        ensures { after_call self.new result ≡ counting self.old n }
+    {
+        let counted = counted_of(self.plan, self.done, n)?;
+        self.done += counted;
+        Ok(counted)
+    }
 }
 
-// How many steps remain.
-pub fn remaining(job: Job) -> usize
-    ensures { result ≡ steps_left job }
-{
-    let plan = job.plan;
-    remaining_of(plan, job.done)
-}
-
-// The same without its arrays.
+// How many steps remain of a job with this plan, of which so many are done.
 pub fn remaining_of(plan: Plan, done: usize) -> usize
     ensures { result ≡ listed_length plan - done }
 {
-    bounds::saturating_sub(job_parts::step_count(plan), done)
+    job_parts::step_count(plan).saturating_sub(done)
 }
 
-// Which step comes next.
-pub fn next_step(job: Job) -> Next
-    ensures { result ≡ next_of job }
-{
-    let plan = job.plan;
-    let first = job.first;
-    let second = job.second;
-    let places = job.places;
-    let value = job.value;
-    next_lent(plan, job.done, &first, &second, &places, &value)
-}
-
-// The same of a job whose arrays are lent.
-pub fn next_lent<'a>(
-    plan: Plan,
-    done: usize,
-    first: &'a [u8],
-    second: &'a [u8],
-    places: &'a [u8],
-    value: &'a [u8],
-) -> Next
-    requires { (Sized first.now places.now value.now) × (Sized second.now places.now value.now) }
-    ensures { result
-        ≡ next_of
-        (lent plan done first.now second.now places.now value.now) }
-{
-    job_parts::next_of_parts(plan, first, second, places, value, done)
-}
-
-// Counts steps that were carried out elsewhere, in their order: so many, or all that remain.
-pub fn advance(job: Job, n: usize) -> Ran
-    ensures { result ≡ counting job n }
-{
-    let plan = job.plan;
-    let did = counted_of(plan, job.done, n);
-    returned(job, did)
-}
-
-// The same without its arrays: only what is answered.
-pub fn counted_of(plan: Plan, done: usize, n: usize) -> Did
+// How many of n steps are counted of such a job.
+pub fn counted_of(plan: Plan, done: usize, n: usize) -> Result<usize, Refusal>
     ensures { (result ≡ counted (listed_length plan - done) n) × (Countable done result) }
 {
     let left = remaining_of(plan, done);
     if left == 0 {
-        return Did::Refused(NO_STEPS_LEFT);
+        return Err(Refusal::NoStepsLeft);
     }
-    Did::Steps(bounds::min(n, left))
+    Ok(n.min(left))
 }
