@@ -1,12 +1,12 @@
 -- The free place, from the last place down: above it nothing has a value but that of an erased place, and nothing is
 -- added to the boot order. Assumes nothing.
 use mathlib.Core.Path.{◌≡◌, refl, sym, ap, ◌∙◌}
-use mathlib.Core.Bool.{Bool, true, false}
+use mathlib.Core.Bool.{Bool, true, false, not}
 use mathlib.Core.List.{List, [], ◌∷◌}
-use Prim.Native.Nat.{ℕ, zero, suc, ◌+◌, ◌-◌, ◌≤◌}
+use Prim.Native.Nat.{ℕ, zero, suc, ◌+◌, ◌-◌, ◌≤◌, ◌<◌}
 use native.Mathlib.Omega.{arith}
 use lib.Dec.{eqb}
-use borrow.Author.Tests.{eqb-true, eqb-false, ne_eqb}
+use borrow.Author.Tests.{eqb-true, eqb-false, eq-eqb, ne_eqb, not-false}
 use lib.ListN.{drop}
 use lib.Seq.{drop-drop}
 use Rattle.rules.specs.Lists.{member, all}
@@ -17,11 +17,13 @@ use Rattle.rules.specs.declared.Place.TheVariants.{Live}
 use Rattle.rules.proofs.Lists.Tests.{and_true}
 use Rattle.rules.proofs.Order.Ordering.{erased_by_value}
 use Rattle.walks.specs.Last.{last_from}
-use Rattle.walks.proofs.Last.{last_within, last_passes}
-use Rattle.places.specs.Inner.PlacesOf.{free_from, HasPlaces}
-use Rattle.places.specs.declared.Places.{Places}
-use Rattle.places.proofs.Values.{length_places}
-use Rattle.places.proofs.PlacesOf.{free_is}
+use Rattle.walks.proofs.Last.{last_passes, last_none, last_goes, last_found}
+use Rattle.walks.specs.Four.{one_of_four}
+use Rattle.walks.proofs.Four.{four_turns}
+use Rattle.places.specs.Inner.FreePlace.{free_from}
+use Rattle.places.specs.Inner.Values.{place_value}
+use Rattle.places.proofs.Values.{free_within, place_turn, place_down, place_over}
+use Rattle.walks.proofs.Loops.{member_here, member_goes, all_over, all_goes}
 
 -- ---- a place is erased by its value alone
 
@@ -74,12 +76,57 @@ not_held p end k v h l u =
     let further = all_further all_ones (k - end) (drop end (places p)) h.erased in
     none_holds v (drop k (places p)) u (rw (drop-drop (k - end) end (places p), e) at further)
 
--- ---- by the places
+-- ---- a walk down from the last place
 
-module _ (p : List ℕ) (k : Places) (h : HasPlaces p k) where
-  pub free_places : FreeFrom p k.free.0
-  unfolding free_from
-  free_places = rw (free_is p k h) (record {
-    within = omega (arith, last_within all_ones (places p), length_places p);
-    erased = last_passes all_ones (places p);
-  })
+pub none_left : (p : List ℕ) → all all_ones (drop (place_count p) (places p)) ≡ true
+none_left p = all_over all_ones (place_over p (place_count p) (omega arith))
+
+pub four_erased : (p : List ℕ) (k : ℕ) → 4 ≤ k → k ≤ place_count p
+    → one_of_four (λ i. not (all_ones (place_value p i))) (k - 4) ≡ false
+    → all all_ones (drop k (places p)) ≡ true
+    → all all_ones (drop (k - 4) (places p)) ≡ true
+four_erased p k four within none erased =
+    let to_k : k - 4 + 4 ≡ k = omega arith in
+    rw to_k at
+    (four_turns (λ i. all all_ones (drop i (places p))) (λ i. not (all_ones (place_value p i))) (place_count p)
+    (λ i h one. all_goes all_ones (place_turn p i h) (not-false (all_ones (place_value p i)) one))
+    (k - 4) (omega arith) none)
+    ∙ erased
+
+module _ (p : List ℕ) (k : ℕ) (some : 0 < k) (within : k ≤ place_count p)
+    (erased : all all_ones (drop k (places p)) ≡ true)
+  where
+    pub one_erased : place_value p (k - 1) ≡ erased_value → all all_ones (drop (k - 1) (places p)) ≡ true
+    unfolding all_ones
+    one_erased e =
+        last_goes all_ones (places p) k (place_down p k some within) erased (eq-eqb (place_value p (k - 1)) erased_value e)
+
+    pub one_used : (place_value p (k - 1) ≡ erased_value → ⊥) → free_from p ≡ k
+    unfolding all_ones free_from
+    one_used other =
+        last_found all_ones (places p) k (place_down p k some within) erased some
+        (ne_eqb (place_value p (k - 1)) erased_value other)
+
+pub all_erased : (p : List ℕ) → all all_ones (drop 0 (places p)) ≡ true → free_from p ≡ 0
+unfolding free_from
+all_erased p erased = last_none all_ones (places p) erased
+
+-- ---- from the free place on
+
+pub free_places : (p : List ℕ) → FreeFrom p (free_from p)
+unfolding free_from
+free_places p = record { within = free_within p; erased = last_passes all_ones (places p) }
+
+-- ---- one turn of a walk up, and its end
+
+pub held_here : (p : List ℕ) (v k : ℕ) → v ≡ place_value p k → k < place_count p
+    → member v (drop k (places p)) ≡ true
+held_here p v k e within = member_here v (place_turn p k within) e
+
+pub held_further : (p : List ℕ) (v k : ℕ) → (v ≡ place_value p k → ⊥) → k < place_count p
+    → member v (drop k (places p)) ≡ member v (drop (k + 1) (places p))
+held_further p v k other within = member_goes v (place_turn p k within) other
+
+pub held_nowhere : (p : List ℕ) (v k : ℕ) → all_ones v ≡ false → free_from p ≤ k
+    → member v (drop k (places p)) ≡ false
+held_nowhere p v k used past = not_held p (free_from p) k v (free_places p) past used

@@ -6,11 +6,13 @@ use native.Mathlib.Omega.{arith}
 use lib.ListN.{length, get_or, take, drop, drop_of_length-le}
 use lib.Seq.{get_or-drop}
 use Rattle.rules.specs.Bytes.{little_endian, field, block_size}
-use Rattle.rules.specs.Pointers.{place_offset, place_count, values, places}
+use Rattle.rules.specs.Pointers.{place_offset, place_count, values, places, all_ones}
 use Rattle.rules.proofs.Lists.Words.{length-values}
 use Rattle.rules.proofs.Pointers.PointerHeader.{places_fit}
 use Rattle.walks.proofs.Rows.{rows_turn}
+use Rattle.walks.proofs.Last.{last_within}
 use Rattle.places.specs.Inner.StandingPointers.{StandingPointers}
+use Rattle.places.specs.Inner.FreePlace.{free_from}
 use Rattle.places.specs.Inner.Values.{place_value}
 
 -- ---- by number
@@ -47,10 +49,18 @@ pub length_places : (p : List ℕ) → length (places p) ≡ place_count p
 unfolding places
 length_places p = length-values (place_count p) (drop (place_offset p) p)
 
+-- the free place is a place, or the count
+pub free_within : (p : List ℕ) → free_from p ≤ place_count p
+unfolding free_from
+free_within p = omega (arith, last_within all_ones (places p), length_places p)
+
 -- ---- in a block that stands
 
 pub few_places : {p : List ℕ} → StandingPointers p → place_count p ≤ 508
 few_places {p} h = (places_fit p h.stands).at_most_508
+
+pub places_inside : (p : List ℕ) → StandingPointers p → place_offset p + 8 * place_count p ≤ block_size
+places_inside p h = (places_fit p h.stands).in_block
 
 pub place_inside : (p : List ℕ) (k : ℕ) → StandingPointers p → k < place_count p
     → place_offset p + 8 * k + 8 ≤ block_size

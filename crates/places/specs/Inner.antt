@@ -1,3 +1,3 @@
 pub mod StandingPointers
-pub mod PlacesOf
+pub mod FreePlace
 pub mod Values

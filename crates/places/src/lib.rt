@@ -7,11 +7,12 @@ ghost use Rattle.rules.specs.Table.{starts};
 ghost use Rattle.rules.specs.Pointers.{place_offset, place_count, offset_right, fits_room, pointers_stand, judged};
 ghost use Rattle.slots.specs.Inner.RowsOf.{HasRows};
 ghost use Rattle.places.specs.Inner.StandingPointers.{StandingPointers};
-ghost use Rattle.places.specs.Inner.PlacesOf.{HasPlaces};
+ghost use Rattle.places.specs.Inner.FreePlace.{free_from};
 ghost use Rattle.places.specs.Inner.Values.{place_value};
 
 use rules::{Place, PlaceNo};
 use slots::Rows;
+use std::marker::Model;
 
 // The three named fields of a block that stands and are fixed: the magic, the header's size and the block's size.
 const MAGIC: u64 = 0x57789609;
@@ -27,7 +28,7 @@ const LAST_OFFSET: u64 = BLOCK_SIZE - POINTER_SIZE;
 
 const POINTER_SIZE: u64 = PLACE_LENGTH as u64;
 
-pub const PLACE_LENGTH: usize = 8;
+const PLACE_LENGTH: usize = 8;
 
 // The value of an erased place.
 pub const ALL_ONES: u64 = 0xFFFF_FFFF_FFFF_FFFF;
@@ -35,13 +36,63 @@ pub const ALL_ONES: u64 = 0xFFFF_FFFF_FFFF_FFFF;
 // What a value's top byte counts.
 const TOP_BYTE: u64 = 0x0100_0000_0000_0000;
 
-// The places of a pointer block: where they begin, how many there are, and the lowest such that it and all above are
-// erased, or the count.
-#[derive(Clone, Copy)]
-pub struct Places {
-    pub offset: usize,
-    pub count: usize,
+// A lent pointer block that stands, with its free place: the lowest such that it and all above are erased, or the count.
+#[derive(Drop)]
+pub struct PointerBlock<'a> {
+    pub bytes: &'a [u8],
     pub free: PlaceNo,
+}
+
+impl<'a> Model for PointerBlock<'a> {
+    ghost use Rattle.std.specs.Prelude.{List, ℕ};
+    ghost use Rattle.places.specs.Inner.FreePlace.{HasFree};
+
+    ghost Value = { List ℕ };
+
+    ghost view = { λ b. b.bytes.now };
+
+    ghost invariant = { λ b. HasFree b.bytes.now b.free.0 };
+}
+
+impl<'a> PointerBlock<'a> {
+    pub fn bytes(&self) -> &'a [u8]
+        ensures bytes { result.now ≡ self.now }
+        ensures block { StandingPointers self.now }
+    {
+        self.bytes
+    }
+
+    // Where the places begin.
+    pub fn offset(&self) -> usize
+        ensures { result ≡ place_offset self.now }
+    {
+        place_offset(self.bytes)
+    }
+
+    #[tactic(auto, using(crate::proofs::Values::few_places))]
+    pub fn count(&self) -> usize
+        ensures count { result ≡ place_count self.now }
+        ensures few { result ≤ 508 }
+    {
+        place_count(self.bytes)
+    }
+
+    #[tactic(auto, using(crate::proofs::Values::free_within, crate::proofs::Values::few_places))]
+    pub fn free(&self) -> PlaceNo
+        ensures free { result.0 ≡ free_from self.now }
+        ensures within { result.0 ≤ place_count self.now }
+        ensures few { place_count self.now ≤ 508 }
+    {
+        self.free
+    }
+
+    // The value of a place.
+    pub fn value(&self, place: PlaceNo) -> u64
+        requires { place.0 < place_count self.now }
+        ensures { result ≡ place_value self.now place.0 }
+    {
+        value_at(self.bytes, place)
+    }
 }
 
 // The copy at an address of the image stands.
@@ -53,43 +104,44 @@ pub fn pointers_stand(image: &[u8], at: usize) -> bool
 }
 
 // The five named fields of a pointer block are right.
+#[tactic(auto, unfolding(rules::specs::Pointers::pointers_stand, rules::specs::Pointers::place_offset, rules::specs::Pointers::place_count))]
 pub fn block_stands(p: &[u8]) -> bool
     requires { length p.now ≡ block_size }
     ensures { result ≡ pointers_stand p.now }
 {
-    (fields::le32(p, 0x00) == MAGIC)
-        & (fields::le32(p, 0x04) == HEADER_SIZE)
-        & (fields::le32(p, 0x08) == BLOCK_SIZE)
-        & offset_right(fields::le32(p, 0x10))
-        & fits_room(fields::le32(p, 0x10), fields::le32(p, 0x14))
+    fields::le32(p, 0x00) == MAGIC
+        && fields::le32(p, 0x04) == HEADER_SIZE
+        && fields::le32(p, 0x08) == BLOCK_SIZE
+        && offset_right(fields::le32(p, 0x10))
+        && fits_room(fields::le32(p, 0x10), fields::le32(p, 0x14))
 }
 
 // A multiple of 8 from 0x20 to 4,088.
+#[tactic(auto, unfolding(rules::specs::Pointers::offset_right, rules::specs::Bytes::multiple))]
 fn offset_right(offset: u64) -> bool
     ensures { result ≡ offset_right offset }
 {
-    (offset % POINTER_SIZE == 0) & (FIRST_OFFSET <= offset) & (offset <= LAST_OFFSET)
+    offset % POINTER_SIZE == 0 && FIRST_OFFSET <= offset && offset <= LAST_OFFSET
 }
 
 // A count from 1 up to the room left.
+#[tactic(auto, unfolding(rules::specs::Pointers::fits_room))]
 fn fits_room(offset: u64, count: u64) -> bool
     ensures { result ≡ fits_room offset count }
 {
-    (1 <= count) & (count <= room_left(offset))
+    1 <= count && count <= room_left(offset)
 }
 
 // How many places there is room for from an offset on; none past the block's end.
 fn room_left(offset: u64) -> u64
     ensures { result ≡ (block_size - offset) / 8 }
 {
-    if BLOCK_SIZE < offset {
-        return 0;
-    }
-    (BLOCK_SIZE - offset) / POINTER_SIZE
+    BLOCK_SIZE.saturating_sub(offset) / POINTER_SIZE
 }
 
 // ---- the places
 
+#[tactic(auto, unfolding(rules::specs::Pointers::place_offset))]
 pub fn place_offset(p: &[u8]) -> usize
     requires { StandingPointers p.now }
     ensures { result ≡ place_offset p.now }
@@ -97,6 +149,7 @@ pub fn place_offset(p: &[u8]) -> usize
     fields::le32(p, 0x10) as usize
 }
 
+#[tactic(auto, unfolding(rules::specs::Pointers::place_count))]
 pub fn place_count(p: &[u8]) -> usize
     requires { StandingPointers p.now }
     ensures { result ≡ place_count p.now }
@@ -104,20 +157,13 @@ pub fn place_count(p: &[u8]) -> usize
     fields::le32(p, 0x14) as usize
 }
 
-// The value of a place, by where the places begin.
-pub fn value_at(p: &[u8], offset: usize, place: PlaceNo) -> u64
-    requires { StandingPointers p.now × ((offset ≡ place_offset p.now) × (place.0 < place_count p.now)) }
-    ensures { result ≡ place_value p.now place.0 }
-{
-    fields::le64(p, offset + PLACE_LENGTH * place.0)
-}
-
 // The value of a place.
-pub fn place_value(p: &[u8], places: Places, place: PlaceNo) -> u64
-    requires { HasPlaces p.now places × (place.0 < places.count) }
+#[tactic(auto, using(crate::proofs::Values::places_inside), unfolding(crate::specs::Inner::Values::place_value))]
+pub fn value_at(p: &[u8], place: PlaceNo) -> u64
+    requires { StandingPointers p.now × (place.0 < place_count p.now) }
     ensures { result ≡ place_value p.now place.0 }
 {
-    value_at(p, places.offset, place)
+    fields::le64(p, place_offset(p) + PLACE_LENGTH * place.0)
 }
 
 // ---- what a place holds
