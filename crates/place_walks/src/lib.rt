@@ -6,7 +6,6 @@ ghost use Rattle.std.specs.Prelude.{◌≡◌, true, false, not, ◌+◌, ◌≤
 ghost use Rattle.rules.specs.Lists.{all};
 ghost use Rattle.rules.specs.Table.{starts};
 ghost use Rattle.rules.specs.Pointers.{place_count, places, all_ones};
-ghost use Rattle.slots.specs.Inner.RowsOf.{HasRows};
 ghost use Rattle.walks.specs.Four.{one_of_four};
 ghost use Rattle.places.specs.Inner.StandingPointers.{StandingPointers};
 ghost use Rattle.places.specs.Inner.FreePlace.{free_from};
@@ -15,7 +14,7 @@ ghost use Rattle.place_walks.specs.Inner.Added.{occurs_above, added_at};
 
 use places::{ALL_ONES, PointerBlock};
 use rules::{Place, PlaceNo, SlotNo};
-use slots::Rows;
+use slots::Table;
 
 // ---- the free place
 
@@ -24,10 +23,7 @@ pub fn pointer_block(bytes: &[u8]) -> PointerBlock<'_>
     requires { StandingPointers bytes.now }
     ensures { result ≡ bytes.now }
 {
-    PointerBlock {
-        bytes,
-        free: free_place(bytes),
-    }
+    PointerBlock::new(bytes, free_place(bytes))
 }
 
 // The lowest place such that it and all above are erased; the count of places where the last is not erased.
@@ -91,12 +87,12 @@ pub fn occurs_above(p: &PointerBlock<'_>, place: PlaceNo, v: u64) -> bool
 
 // What a place adds to the boot order: its slot, if it is live and no higher place has the same value.
 #[tactic(auto, using(crate::proofs::Free::live_used), unfolding(crate::specs::Inner::Added::added_at, crate::specs::Inner::Added::added))]
-pub fn added_by(t: &[u8], rows: Rows, p: &PointerBlock<'_>, place: PlaceNo) -> Option<SlotNo>
-    requires { HasRows t.now rows × (place.0 < place_count p.now) }
+pub fn added_by(t: &Table<'_>, p: &PointerBlock<'_>, place: PlaceNo) -> Option<SlotNo>
+    requires { place.0 < place_count p.now }
     ensures { result ≡ added_at (starts t.now) p.now place.0 }
 {
     let v = p.value(place);
-    match places::judge(t, rows, v) {
+    match places::judge(t, v) {
         Place::Live(s) if !occurs_above(p, place, v) => Some(s),
         _ => None,
     }

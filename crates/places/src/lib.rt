@@ -5,13 +5,12 @@ ghost use Rattle.std.specs.Prelude.{◌≡◌, ◌+◌, ◌-◌, ◌/◌, ◌≤
 ghost use Rattle.rules.specs.Bytes.{block, block_size};
 ghost use Rattle.rules.specs.Table.{starts};
 ghost use Rattle.rules.specs.Pointers.{place_offset, place_count, offset_right, fits_room, pointers_stand, judged};
-ghost use Rattle.slots.specs.Inner.RowsOf.{HasRows};
 ghost use Rattle.places.specs.Inner.StandingPointers.{StandingPointers};
-ghost use Rattle.places.specs.Inner.FreePlace.{free_from};
+ghost use Rattle.places.specs.Inner.FreePlace.{free_from, HasFree};
 ghost use Rattle.places.specs.Inner.Values.{place_value};
 
 use rules::{Place, PlaceNo};
-use slots::Rows;
+use slots::Table;
 use std::marker::Model;
 
 // The three named fields of a block that stands and are fixed: the magic, the header's size and the block's size.
@@ -39,8 +38,8 @@ const TOP_BYTE: u64 = 0x0100_0000_0000_0000;
 // A lent pointer block that stands, with its free place: the lowest such that it and all above are erased, or the count.
 #[derive(Drop)]
 pub struct PointerBlock<'a> {
-    pub bytes: &'a [u8],
-    pub free: PlaceNo,
+    bytes: &'a [u8],
+    free: PlaceNo,
 }
 
 impl<'a> Model for PointerBlock<'a> {
@@ -55,6 +54,13 @@ impl<'a> Model for PointerBlock<'a> {
 }
 
 impl<'a> PointerBlock<'a> {
+    pub fn new(bytes: &'a [u8], free: PlaceNo) -> PointerBlock<'a>
+        requires { HasFree bytes.now free.0 }
+        ensures { result ≡ bytes.now }
+    {
+        PointerBlock { bytes, free }
+    }
+
     pub fn bytes(&self) -> &'a [u8]
         ensures bytes { result.now ≡ self.now }
         ensures block { StandingPointers self.now }
@@ -109,11 +115,11 @@ pub fn block_stands(p: &[u8]) -> bool
     requires { length p.now ≡ block_size }
     ensures { result ≡ pointers_stand p.now }
 {
-    fields::le32(p, 0x00) == MAGIC
-        && fields::le32(p, 0x04) == HEADER_SIZE
-        && fields::le32(p, 0x08) == BLOCK_SIZE
-        && offset_right(fields::le32(p, 0x10))
-        && fits_room(fields::le32(p, 0x10), fields::le32(p, 0x14))
+    fields::number::<4>(p, 0x00) == MAGIC
+        && fields::number::<4>(p, 0x04) == HEADER_SIZE
+        && fields::number::<4>(p, 0x08) == BLOCK_SIZE
+        && offset_right(fields::number::<4>(p, 0x10))
+        && fits_room(fields::number::<4>(p, 0x10), fields::number::<4>(p, 0x14))
 }
 
 // A multiple of 8 from 0x20 to 4,088.
@@ -146,7 +152,7 @@ pub fn place_offset(p: &[u8]) -> usize
     requires { StandingPointers p.now }
     ensures { result ≡ place_offset p.now }
 {
-    fields::le32(p, 0x10) as usize
+    fields::number::<4>(p, 0x10) as usize
 }
 
 #[tactic(auto, unfolding(rules::specs::Pointers::place_count))]
@@ -154,7 +160,7 @@ pub fn place_count(p: &[u8]) -> usize
     requires { StandingPointers p.now }
     ensures { result ≡ place_count p.now }
 {
-    fields::le32(p, 0x14) as usize
+    fields::number::<4>(p, 0x14) as usize
 }
 
 // The value of a place.
@@ -163,28 +169,23 @@ pub fn value_at(p: &[u8], place: PlaceNo) -> u64
     requires { StandingPointers p.now × (place.0 < place_count p.now) }
     ensures { result ≡ place_value p.now place.0 }
 {
-    fields::le64(p, place_offset(p) + PLACE_LENGTH * place.0)
+    fields::number::<8>(p, place_offset(p) + PLACE_LENGTH * place.0)
 }
 
 // ---- what a place holds
 
 // What a place with this value holds, by a table.
-pub fn judge(t: &[u8], rows: Rows, v: u64) -> Place
-    requires { HasRows t.now rows }
+#[tactic(auto, using(crate::proofs::Judged::judged_erased, crate::proofs::Judged::judged_spent, crate::proofs::Judged::judged_part_written, crate::proofs::Judged::judged_stray))]
+pub fn judge(t: &Table<'_>, v: u64) -> Place
     ensures { result ≡ judged (starts t.now) v }
 {
-    if v == ALL_ONES {
-        return Place::Erased;
+    match v {
+        ALL_ONES => Place::Erased,
+        0 => Place::Spent,
+        _ => match slots::find_slot(t.entries(), v) {
+            Some(e) => Place::Live(t.slot_at(e)),
+            None if v / TOP_BYTE == 0xFF => Place::PartWritten,
+            None => Place::Stray(v),
+        },
     }
-    if v == 0 {
-        return Place::Spent;
-    }
-    let e = slots::find_slot(t, rows.count, v);
-    if e.0 < rows.count {
-        return Place::Live(slots::slot_at(t, rows, e));
-    }
-    if v / TOP_BYTE == 0xFF {
-        return Place::PartWritten;
-    }
-    Place::Stray(v)
 }

@@ -10,15 +10,13 @@ use lib.Dec.{eqb, ltb, leb-suc-suc, leb-zero}
 use borrow.Author.Tests.{lt-ltb, le-ltb}
 use lib.ListN.{length, take, drop}
 use Rattle.rules.specs.Lists.{keep}
-use Rattle.rules.specs.Table.{Entry, rows, is_slot, slots, slot_starts}
+use Rattle.rules.specs.Table.{Entry, is_slot, slots, slot_starts}
 use Rattle.rules.specs.Pointers.{one_more, slot_at}
 use Rattle.rules.specs.Readers.{slot_row}
-use Rattle.rules.proofs.Table.Standing.{length-entries_from}
 use Rattle.rules.proofs.Lists.Tests.{by_cases, clash}
 use Rattle.walks.specs.Find.{find}
 use Rattle.walks.specs.Entries.{slot_from}
 use Rattle.walks.proofs.Joined.{and_with_false}
-use Rattle.walks.proofs.Entries.{take_entries}
 
 one_more-cond : (b : Bool) (k : ℕ) → one_more (cond b (Some k) None) ≡ cond b (Some (suc k)) None
 unfolding one_more
@@ -37,14 +35,13 @@ slot_at-find (e ∷ es) a =
     (λ t. rw (p, t, slot_at-find es a, leb-suc-suc (suc (find (slot_from a) es)) (length es), one_more-cond, p)))
     (λ p. rw (p, and_with_false, slot_at-find es a, leb-suc-suc (suc (find (slot_from a) es)) (length es), p))
 
--- of the first n entries of a table, by the number i that the search gave
-module _ (n : ℕ) (t : List ℕ) (a i : ℕ) (e : i ≡ find (slot_from a) (rows n t)) where
-  pub slot_at_found : i < n → slot_at (slot_starts (rows n t)) a ≡ Some (length (slots (rows i t)))
-  slot_at_found h =
-      slot_at-find (rows n t) a ∙ rw (← e, length-entries_from, lt-ltb i n h, take_entries i n (drop 0x20 t) (omega arith))
+-- by the number i that the search gave
+module _ (es : List Entry) (a i : ℕ) (e : i ≡ find (slot_from a) es) where
+  pub slot_at_found : i < length es → slot_at (slot_starts es) a ≡ Some (length (slots (take i es)))
+  slot_at_found h = slot_at-find es a ∙ rw (← e, lt-ltb i (length es) h)
 
-  pub slot_at_not_found : n ≤ i → slot_at (slot_starts (rows n t)) a ≡ None
-  slot_at_not_found h = slot_at-find (rows n t) a ∙ rw (← e, length-entries_from, le-ltb i n h)
+  pub slot_at_not_found : i ≡ length es → slot_at (slot_starts es) a ≡ None
+  slot_at_not_found h = slot_at-find es a ∙ rw (← e, le-ltb i (length es) (omega arith))
 
 -- ---- the entry number of the k-th slot: `es` is what is left to walk
 
