@@ -1,82 +1,56 @@
--- Two lists of bytes compared, one after the other or in stretches, or a list with one byte throughout. Assumes nothing.
-use mathlib.Core.Path.{◌≡◌, refl, sym, ap, ◌∙◌, subst}
-use mathlib.Core.Bool.{Bool, true, false, ◌&&◌}
-use mathlib.Core.List.{List, [], ◌∷◌}
-use Prim.Native.Nat.{ℕ, zero, suc, ◌<◌, ◌+◌, ◌≤◌}
-use native.Mathlib.Numerals.{add-one}
-use native.Mathlib.Omega.{arith}
-use lib.Dec.{eqb}
-use lib.ListN.{length, get_or, take, drop, replicate, drop_of_length-le, length-drop, length-replicate, get_or-replicate}
-use lib.Seq.{drop-cons, drop-drop, take-nil}
+-- Bytes compared, one by one and in stretches: one turn and the end of each loop. Assumes nothing.
+use Rattle.std.proofs.Common.{◌≡◌, ℕ, ◌+◌, ◌<◌, ◌≤◌, List, [], ◌∷◌, ◌++◌, Bool, ◌&&◌, refl, length, get_or, drop, drop-cons, add-one, eqb, arith}
+use Rattle.std.proofs.Math.ListN.{drop_of_length-le}
 use Rattle.rules.specs.Lists.{same, all}
-use Rattle.walks.proofs.Joined.{and_assoc, and_with_true, same_parts}
+use Rattle.walks.proofs.Joined.{and_assoc, and_with_true}
 
--- ---- two lists compared: `equal` tells whether the elements before the i-th are
+-- ---- two lists
 
-module _ (a b : List ℕ) (i : ℕ) (equal : Bool) (same_length : length a ≡ length b) where
-  pub same_turn : i < length a
-      → equal && eqb (get_or a i 0) (get_or b i 0) && same (drop (i + 1) a) (drop (i + 1) b)
-      ≡ equal && same (drop i a) (drop i b)
-  unfolding same
-  same_turn within = rw (drop-cons a i 0 within, drop-cons b i 0 (omega arith), add-one, and_assoc)
+pub same_turn : (t : Bool) {x y : ℕ} {xs ys xs' ys' : List ℕ} → xs ≡ x ∷ xs' → ys ≡ y ∷ ys'
+    → t && eqb x y && same xs' ys' ≡ t && same xs ys
+unfolding same
+same_turn t e f = rw (e, f, and_assoc)
 
-  pub same_over : length a ≤ i → equal ≡ equal && same (drop i a) (drop i b)
-  unfolding same
-  same_over over =
-      rw (drop_of_length-le a {i = i} over, drop_of_length-le b {i = i} (omega arith), and_with_true)
+pub same_over : (t : Bool) (xs ys : List ℕ) → length xs ≡ length ys → length xs ≡ 0 → t && same xs ys ≡ t
+unfolding same
+same_over t [] [] e f = and_with_true t
+same_over t [] (y ∷ ys) e f = absurd (omega arith)
+same_over t (x ∷ xs) ys e f = absurd (omega arith)
 
--- ---- two lists compared in stretches
+same_append : (xs ys xs' ys' : List ℕ) → length xs ≡ length ys
+    → same (xs ++ xs') (ys ++ ys') ≡ same xs ys && same xs' ys'
+unfolding same
+same_append [] [] xs' ys' h = refl
+same_append [] (y ∷ ys) xs' ys' h = absurd (omega arith)
+same_append (x ∷ xs) [] xs' ys' h = absurd (omega arith)
+same_append (x ∷ xs) (y ∷ ys) xs' ys' h = rw (same_append xs ys xs' ys' (omega arith), and_assoc)
 
-module _ (a b : List ℕ) (from size : ℕ) (same_length : length a ≡ length b) where
-  stretch : same (drop from a) (drop from b)
-      ≡ same (take size (drop from a)) (take size (drop from b)) && same (drop (from + size) a) (drop (from + size) b)
-  stretch =
-      same_parts size (drop from a) (drop from b) (simp length-drop (omega arith))
-      ∙ rw (drop-drop size from a, drop-drop size from b)
+-- two stretches compared, and what is left
+pub same_stretch : {t : Bool} {xs ys : List ℕ} (x y xs' ys' : List ℕ)
+    → xs ≡ x ++ xs'
+    → ys ≡ y ++ ys'
+    → length x ≡ length y
+    → t ≡ same x y
+    → same xs ys ≡ t && same xs' ys'
+same_stretch x y xs' ys' e f l r = rw (e, f, r) (same_append x y xs' ys' l)
 
-  pub stretch_goes : same (take size (drop from a)) (take size (drop from b)) ≡ true
-      → same (drop from a) (drop from b) ≡ same (drop (from + size) a) (drop (from + size) b)
-  stretch_goes t = stretch ∙ rw t
+-- ---- one list
 
-  pub stretch_fails : same (take size (drop from a)) (take size (drop from b)) ≡ false
-      → same (drop from a) (drop from b) ≡ false
-  stretch_fails t = stretch ∙ rw t
+module _ (p : ℕ → Bool) where
+  pub all_turn : (t : Bool) (i : ℕ) (xs : List ℕ) → i < length xs
+      → t && p (get_or xs i 0) && all p (drop (i + 1) xs) ≡ t && all p (drop i xs)
+  unfolding all
+  all_turn t i xs h = rw (drop-cons xs i 0 h, add-one, and_assoc)
 
--- ---- a list compared with one byte throughout
+  pub all_over : (t : Bool) (i : ℕ) (xs : List ℕ) → length xs ≤ i → t && all p (drop i xs) ≡ t
+  unfolding all
+  all_over t i xs h = rw (drop_of_length-le xs {i = i} h, and_with_true)
 
--- a part of this byte throughout is this byte throughout
-part_of_one_byte : (b n from : ℕ) (a : List ℕ)
-    → take n (drop from (replicate (length a) b)) ≡ replicate (length (take n (drop from a))) b
-part_of_one_byte b n zero [] = rw (take-nil n)
-part_of_one_byte b n (suc from) [] = rw (take-nil n)
-part_of_one_byte b zero zero (x ∷ a) = refl
-part_of_one_byte b (suc n) zero (x ∷ a) = ap (λ (l : List ℕ). b ∷ l) (part_of_one_byte b n zero a)
-part_of_one_byte b n (suc from) (x ∷ a) = part_of_one_byte b n from a
+  all_append : (xs ys : List ℕ) → all p (xs ++ ys) ≡ all p xs && all p ys
+  unfolding all
+  all_append [] ys = refl
+  all_append (x ∷ xs) ys = rw (all_append xs ys, and_assoc)
 
-module _ (b : ℕ) (a : List ℕ) where
-  abbrev all_b : List ℕ
-  all_b = replicate (length a) b
-
-  pub as_long : length a ≡ length all_b
-  as_long = sym (length-replicate (length a) b)
-
-  pub one_byte_turn : (i : ℕ) (equal : Bool) → i < length a
-      → equal && eqb (get_or a i 0) b && same (drop (i + 1) a) (drop (i + 1) all_b)
-      ≡ equal && same (drop i a) (drop i all_b)
-  one_byte_turn i equal within =
-      subst (λ (x : ℕ). equal && eqb (get_or a i 0) x && same (drop (i + 1) a) (drop (i + 1) all_b)
-      ≡ equal && same (drop i a) (drop i all_b))
-      (get_or-replicate (length a) i b 0 within) (same_turn a all_b i equal as_long within)
-
-  -- a stretch compared with this byte is compared with its part
-  pub one_byte_stretch : (from size : ℕ) {r : Bool}
-      → same (take size (drop from a)) (replicate (length (take size (drop from a))) b) ≡ r
-      → same (take size (drop from a)) (take size (drop from all_b)) ≡ r
-  one_byte_stretch from size e = rw (part_of_one_byte b size from a) e
-
-pub same_as_one_byte : (b n : ℕ) (a : List ℕ) → length a ≡ n → same a (replicate n b) ≡ all (λ x. eqb x b) a
-unfolding same all
-same_as_one_byte b zero [] h = refl
-same_as_one_byte b zero (x ∷ a) h = absurd (omega arith)
-same_as_one_byte b (suc n) [] h = absurd (omega arith)
-same_as_one_byte b (suc n) (x ∷ a) h = rw (same_as_one_byte b n a (omega arith))
+  -- a stretch tested, and what is left
+  pub all_stretch : {t : Bool} {xs : List ℕ} (x xs' : List ℕ) → xs ≡ x ++ xs' → t ≡ all p x → all p xs ≡ t && all p xs'
+  all_stretch x xs' e r = rw (e, r) (all_append x xs')

@@ -1,13 +1,13 @@
 // Blocks compared: the two copies of one, or one with erased bytes.
 #![tactic(auto)]
 
-ghost use Rattle.std.specs.Prelude.{◌≡◌, ◌+◌, ◌≤◌, length, replicate};
-ghost use Rattle.rules.specs.Lists.{same};
+ghost use Rattle.std.specs.Prelude.{◌≡◌, ◌+◌, ◌≤◌, eqb, length};
+ghost use Rattle.rules.specs.Lists.{same, all};
 ghost use Rattle.rules.specs.Bytes.{block, block_size, erased_byte};
 ghost use Rattle.rules.specs.Commands.{slot_empty};
 
-// A block is compared in eight stretches, with a return after each. Within a stretch there is none, so that its loop is
-// turned into vector code.
+// A block is compared in stretches, with a return after each. Within a stretch there is none, so that its loop is turned
+// into vector code.
 const STRETCH: usize = 512;
 
 // A byte of erased flash.
@@ -21,26 +21,14 @@ pub fn same_blocks(image: &[u8], a0: usize, a1: usize) -> bool
     same_stretches(fields::block_at(image, a0), fields::block_at(image, a1))
 }
 
-// The slot at an address is empty: its first 4,096 bytes are all 0xFF.
-pub fn is_erased(image: &[u8], at: usize) -> bool
-    requires { at + block_size ≤ length image.now }
-    ensures { result ≡ slot_empty image.now at }
-{
-    erased_stretches(fields::block_at(image, at))
-}
-
 fn same_stretches(a: &[u8], b: &[u8]) -> bool
-    requires { (length a.now ≡ block_size) × (length b.now ≡ block_size) }
+    requires { length a.now ≡ length b.now }
     ensures { result ≡ same a.now b.now }
 {
-    let mut k = 0;
-    while k < 8 {
-        let from = STRETCH * k;
-        let end = from + STRETCH;
-        if !same_bytes(&a[from..end], &b[from..end]) {
+    for (x, y) in a.chunks(STRETCH).zip(b.chunks(STRETCH)) {
+        if !same_bytes(x, y) {
             return false;
         }
-        k += 1;
     }
     true
 }
@@ -49,39 +37,33 @@ fn same_bytes(a: &[u8], b: &[u8]) -> bool
     requires { length a.now ≡ length b.now }
     ensures { result ≡ same a.now b.now }
 {
-    let mut equal = true;
-    let mut i = 0;
-    while i < a.len() {
-        equal = equal & (a[i] == b[i]);
-        i += 1;
+    let mut same = true;
+    for (x, y) in a.iter().zip(b) {
+        same &= *x == *y;
     }
-    equal
+    same
 }
 
-fn erased_stretches(a: &[u8]) -> bool
-    requires { length a.now ≡ block_size }
-    ensures { result ≡ same a.now (replicate (length a.now) erased_byte) }
+// The slot at an address is empty: its first 4,096 bytes are all 0xFF.
+pub fn is_erased(image: &[u8], at: usize) -> bool
+    requires { at + block_size ≤ length image.now }
+    ensures { result ≡ slot_empty image.now at }
 {
-    let mut k = 0;
-    while k < 8 {
-        let from = STRETCH * k;
-        let end = from + STRETCH;
-        if !erased_bytes(&a[from..end]) {
+    let block = fields::block_at(image, at);
+    for stretch in block.chunks(STRETCH) {
+        if !erased_bytes(stretch) {
             return false;
         }
-        k += 1;
     }
     true
 }
 
 fn erased_bytes(a: &[u8]) -> bool
-    ensures { result ≡ same a.now (replicate (length a.now) erased_byte) }
+    ensures { result ≡ all (λ b. eqb b erased_byte) a.now }
 {
-    let mut equal = true;
-    let mut i = 0;
-    while i < a.len() {
-        equal = equal & (a[i] == ERASED);
-        i += 1;
+    let mut erased = true;
+    for byte in a {
+        erased &= *byte == ERASED;
     }
-    equal
+    erased
 }

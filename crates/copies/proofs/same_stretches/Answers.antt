@@ -1,39 +1,43 @@
--- `same_stretches` meets its contract. The loop's invariant: what is left is equal exactly if all is. Assumes nothing.
-use mathlib.Core.Path.{◌≡◌, sym, ◌∙◌}
-use mathlib.Core.Bool.{true}
-use Prim.Native.Nat.{◌+◌, ◌-◌, ◌*◌}
-use native.Mathlib.Omega.{arith}
-use lib.ListN.{length-take, length-drop}
-use Rattle.walks.proofs.Joined.{failed, passed}
-use Rattle.copies.proofs.EqualBytes.{same_over, stretch_goes, stretch_fails}
-use mathlib.Core.Path.{ap}
-use mathlib.Core.Bool.{not}
+-- `same_stretches` compares two blocks in stretches. Assumes nothing.
+use Rattle.std.proofs.Common.{◌≡◌, sym, ◌∙◌, ap, true, length, inl, inr, arith}
+use Rattle.std.proofs.lemmas.List.{length-append}
+use Rattle.copies.proofs.EqualBytes.{same_stretch, same_over}
 use Rattle.copies.proofs.same_stretches.Goals as goal
 
 pub same_bytes-requires : goal.same_bytes-requires
-same_bytes-requires c = simp (length-take, length-drop) (omega arith)
+same_bytes-requires c =
+    let turn = c.in-Some.ensures.steps in
+    omega (arith, turn.0.1.1, turn.1.1.1, c.loop-x.invariant.0, c.loop-x.invariant.1.0)
 
 pub returns-then-not-same_bytes : goal.returns-then-not-same_bytes
 returns-then-not-same_bytes c =
-    let a = c.args in
-    let from = 512 * c.loop-k.k in
-    sym (c.loop-k.invariant.1
-    ∙ stretch_fails a.a.now a.b.now from (from + 512 - from) (omega arith)
-    (failed c.same_bytes.ensures (ap not c.if-not-same_bytes.true)))
+    let turn = c.in-Some.ensures.steps in
+    sym (same_stretch c.in-Some.x.now c.in-Some.y.now c.next.new.self.a.rest.now c.next.new.self.b.rest.now turn.0.1.0
+    turn.1.1.0 (omega (arith, turn.0.1.1, turn.1.1.1, c.loop-x.invariant.0, c.loop-x.invariant.1.0))
+    c.if-not-same_bytes.ensures)
+    ∙ c.loop-x.invariant.1.1
 
-pub loop-k-preserved : goal.loop-k-preserved
-loop-k-preserved c =
-    let a = c.args in
-    let from = 512 * c.loop-k.k in
-    let next : 512 * (c.loop-k.k + 1) ≡ from + (from + 512 - from) = omega arith in (
-      omega arith,
-      rw next
-          (c.loop-k.invariant.1
-          ∙ stretch_goes a.a.now a.b.now from (from + 512 - from) (omega arith)
-          (passed c.same_bytes.ensures (ap not c.if-not-same_bytes.false))),
+pub loop-x-preserved : goal.loop-x-preserved
+loop-x-preserved c =
+    let turn = c.in-Some.ensures.steps in
+    let as_long : length c.in-Some.x.now ≡ length c.in-Some.y.now =
+    omega (arith, turn.0.1.1, turn.1.1.1, c.loop-x.invariant.0, c.loop-x.invariant.1.0) in
+    let first = simp length-append at (ap length turn.0.1.0) in
+    let second = simp length-append at (ap length turn.1.1.0) in (
+      omega (arith, first, second, as_long, c.loop-x.invariant.0),
+      (
+        omega (arith, turn.0.0, turn.1.0, c.loop-x.invariant.1.0),
+        sym (same_stretch c.in-Some.x.now c.in-Some.y.now c.next.new.self.a.rest.now c.next.new.self.b.rest.now
+            turn.0.1.0 turn.1.1.0 as_long c.if-not-same_bytes.ensures)
+            ∙ c.loop-x.invariant.1.1,
+      ),
     )
 
 pub returns : goal.returns
 returns c =
-    let a = c.args in
-    same_over a.a.now a.b.now (512 * c.loop-k.k) true (omega arith) (omega arith) ∙ sym c.loop-k.invariant.1
+    let left = c.loop-x.x-iterator in
+    let over : length left.a.rest.now ≡ 0 = elim c.in-None.ensures.steps [
+      | inl a ↦ a.1.1.0
+      | inr b ↦ c.loop-x.invariant.0 ∙ b.1.1.0
+    ] in
+    sym (same_over true left.a.rest.now left.b.rest.now c.loop-x.invariant.0 over) ∙ c.loop-x.invariant.1.1

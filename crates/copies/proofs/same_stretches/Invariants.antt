@@ -1,11 +1,9 @@
-use mathlib.Core.Path.{◌≡◌}
-use Prim.Native.Nat.{◌-◌, ◌*◌, ◌≤◌}
-use lib.ListN.{drop}
+use Rattle.std.proofs.Common.{◌≡◌, length}
 use Rattle.rules.specs.Lists.{same}
 use Rattle.copies.proofs.same_stretches.Given as goal
 
-abbrev pub invariant-loop-k : goal.invariant-loop-k
-invariant-loop-k l = (l.k ≤ 8) × (same l.a l.b ≡ same (drop (512 * l.k) l.a) (drop (512 * l.k) l.b))
-
-abbrev pub decreases-loop-k : goal.decreases-loop-k
-decreases-loop-k l = 8 - l.k
+abbrev pub invariant-loop-x : goal.invariant-loop-x
+invariant-loop-x l =
+    let left = l.x-iterator in
+    (length left.a.rest.now ≡ length left.b.rest.now)
+    × ((left.a.size ≡ left.b.size) × (same left.a.rest.now left.b.rest.now ≡ same l.a l.b))
