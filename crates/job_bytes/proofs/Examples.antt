@@ -4,7 +4,7 @@ use mathlib.Core.List.{[], ◌∷◌, ◌++◌}
 use Prim.Native.Nat.{◌*◌}
 use lib.ListN.{replicate}
 use Rattle.rules.specs.Bytes.{block_size, bytes_of}
-use Rattle.rules.specs.Answers.{refused, unless, numbered}
+use Rattle.rules.specs.Answers.{refused, unless}
 use Rattle.jobs.specs.Jobs.{place_room}
 use Rattle.jobs.specs.declared.Job.{Job}
 use Rattle.job_parts.specs.declared.Kind.TheVariants.{Rewrite, Places}
@@ -43,6 +43,6 @@ unfolding numbers_encoded sizes_encoded addresses_encoded kinds_encoded kind_num
 sample_numbers = refl
 
 -- no bytes at all
-pub nothing_held : decoded [] ≡ refused (numbered malformed)
+pub nothing_held : decoded [] ≡ refused malformed
 unfolding decoded unless holds_job
 nothing_held = refl

@@ -2,6 +2,8 @@
 use Rattle.std.specs.Prelude.{◌≡◌, Bool, cond, ◌&&◌, List, ◌++◌, ℕ, ◌*◌, min, eqb, leb, length, take, drop}
 use Rattle.rules.specs.Bytes.{block_size, bytes_of, field}
 use Rattle.rules.specs.Answers.{Answer, given, unless}
+use Rattle.rules.specs.declared.Refusal.{Refusal}
+use Rattle.rules.specs.declared.Refusal.TheVariants.{NotAJob}
 use Rattle.jobs.specs.Jobs.{place_room, steps_of}
 use Rattle.job_parts.specs.declared.Kind.{Kind}
 use Rattle.job_parts.specs.declared.Kind.TheVariants.{Nothing, Rewrite, Places}
@@ -13,8 +15,8 @@ abbrev pub job_size : ℕ
 job_size = 9264
 
 -- the refusal of a buffer that has another length, or that holds no job
-abbrev pub malformed : ℕ
-malformed = 90
+abbrev pub malformed : Refusal
+malformed = NotAJob
 
 -- ---- where each field begins
 

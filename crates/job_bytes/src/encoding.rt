@@ -8,6 +8,7 @@ ghost use Rattle.job_bytes.specs.Form.{job_size, len_at, offset_at, first_kind_a
 ghost use Rattle.job_bytes.specs.Form.{sizes_encoded, addresses_encoded, kinds_encoded, numbers_encoded, block_over, encoded_over};
 ghost use Rattle.job_bytes.specs.Inner.Fitting.{Fitting};
 
+use fields::stores;
 use job_parts::{Kind, Plan};
 
 // A job with no step done into a buffer of that length, its arrays lent: what its steps do not use is not copied, and need
@@ -26,13 +27,11 @@ pub fn encode<'a>(
         (lent plan 0 first.now second.now places.now value.now) }
 {
     store_numbers(out, plan, 0);
-    fields::stores::copy(out, super::VALUE_AT, value);
+    stores::copy(out, super::VALUE_AT, value);
     let size = meant_size(plan.count);
-    fields::stores::copy(out, super::PLACES_AT, &places[..size]);
-    let one = plan.first;
-    let two = plan.second;
-    store_block(out, super::FIRST_BLOCK_AT, one, first);
-    store_block(out, super::SECOND_BLOCK_AT, two, second);
+    stores::copy(out, super::PLACES_AT, &places[..size]);
+    store_block(out, super::FIRST_BLOCK_AT, plan.first, first);
+    store_block(out, super::SECOND_BLOCK_AT, plan.second, second);
 }
 
 fn store_numbers(out: &mut [u8], plan: Plan, done: usize)
@@ -48,39 +47,34 @@ fn store_sizes(out: &mut [u8], plan: Plan, done: usize)
     requires { length out.old ≡ job_size }
     ensures { out.new ≡ put_at len_at (sizes_encoded plan done) out.old }
 {
-    fields::stores::store64(out, super::LEN_AT, plan.len as u64);
-    fields::stores::store64(out, super::GRANULE_AT, plan.granule as u64);
-    fields::stores::store64(out, super::COUNT_AT, plan.count as u64);
-    fields::stores::store64(out, super::DONE_AT, done as u64);
+    stores::store::<8>(out, super::LEN_AT, plan.len as u64);
+    stores::store::<8>(out, super::GRANULE_AT, plan.granule as u64);
+    stores::store::<8>(out, super::COUNT_AT, plan.count as u64);
+    stores::store::<8>(out, super::DONE_AT, done as u64);
 }
 
 fn store_addresses(out: &mut [u8], plan: Plan)
     requires { length out.old ≡ job_size }
     ensures { out.new ≡ put_at offset_at (addresses_encoded plan) out.old }
 {
-    fields::stores::store32(out, super::OFFSET_AT, plan.offset as u64);
-    fields::stores::store32(out, super::FIRST_ADDRESS_AT, plan.at as u64);
-    fields::stores::store32(out, super::SECOND_ADDRESS_AT, plan.after as u64);
+    stores::store::<4>(out, super::OFFSET_AT, plan.offset as u64);
+    stores::store::<4>(out, super::FIRST_ADDRESS_AT, plan.at as u64);
+    stores::store::<4>(out, super::SECOND_ADDRESS_AT, plan.after as u64);
 }
 
 fn store_kinds(out: &mut [u8], plan: Plan)
     requires { length out.old ≡ job_size }
     ensures { out.new ≡ put_at first_kind_at (kinds_encoded plan) out.old }
 {
-    let first = plan.first;
-    let second = plan.second;
-    fields::stores::store16(out, super::FIRST_KIND_AT, number_of(first));
-    fields::stores::store16(out, super::SECOND_KIND_AT, number_of(second));
+    stores::store::<2>(out, super::FIRST_KIND_AT, number_of(plan.first));
+    stores::store::<2>(out, super::SECOND_KIND_AT, number_of(plan.second));
 }
 
 // The bytes of the places' numbers that are meant.
 fn meant_size(count: usize) -> usize
     ensures { result ≡ meant_size count }
 {
-    if count < rules::MOST_PLACES {
-        return 2 * count;
-    }
-    2 * rules::MOST_PLACES
+    2 * count.min(rules::MOST_PLACES)
 }
 
 fn store_block(out: &mut [u8], at: usize, kind: Kind, block: &[u8])
@@ -91,20 +85,14 @@ fn store_block(out: &mut [u8], at: usize, kind: Kind, block: &[u8])
         out.old }
 {
     match kind {
-        Kind::Nothing => {}
-        Kind::Rewrite => {
-            fields::stores::copy_block(out, at, block);
-        }
-        Kind::Places => {}
+        Kind::Rewrite => stores::copy_block(out, at, block),
+        Kind::Nothing | Kind::Places => {}
     }
 }
 
+#[tactic(auto, unfolding(crate::specs::Form::kind_number))]
 fn number_of(kind: Kind) -> u64
     ensures { result ≡ kind_number kind }
 {
-    match kind {
-        Kind::Nothing => 0,
-        Kind::Rewrite => 1,
-        Kind::Places => 2,
-    }
+    kind as u64
 }

@@ -3,21 +3,19 @@
 use mathlib.Core.Path.{◌≡◌, refl, sym}
 use mathlib.Core.Bool.{Bool, true, false, ◌&&◌}
 use mathlib.Core.List.{List, [], ◌∷◌}
-use Prim.Native.Nat.{ℕ, zero, suc, ◌-◌, min}
+use Prim.Native.Nat.{ℕ, zero, suc, min}
 use native.Mathlib.Omega.{arith}
 use lib.Dec.{eqb, ltb}
 use lib.ListN.{length, length-take}
 use borrow.Author.Tests.{lt-ltb}
 use Rattle.rules.specs.Lists.{all}
-use Rattle.rules.specs.Answers.{Answer, refused, given, unless}
+use Rattle.rules.specs.Answers.{refused, given, unless}
 use Rattle.rules.specs.Cuts.{Progress, inside, may_run}
 use Rattle.rules.specs.declared.Step.{Step}
 use Rattle.jobs.specs.Jobs.{steps_of, under_way, admitted, steps_done, returned, ran, steps_left, first_step, next_of, counted, counting}
 use Rattle.jobs.specs.declared.Job.{Job}
 use Rattle.std.specs.Prelude.{Some, None}
-use Rattle.job_parts.specs.Inner.Parts.{listed_length}
-use Rattle.jobs.specs.Inner.Countable.{Arrays}
-use Rattle.jobs.proofs.Running.{steps_advanced, remain}
+use Rattle.jobs.proofs.Running.{steps_advanced}
 use Rattle.rules.specs.declared.Refusal.TheVariants.{NoStepsLeft, OutsideImage}
 
 pub counts_none : (left n : ℕ) → left ≡ 0 → refused NoStepsLeft ≡ counted left n
@@ -28,12 +26,6 @@ pub counts_some : (left n : ℕ) → (left ≡ 0 → ⊥) → given (min n left)
 unfolding counted
 counts_some zero n h = absurd (h refl)
 counts_some (suc left) n h = refl
-
--- what counting answers leaves the job as counting does
-pub counting_as : (j : Job) → Arrays j → (n : ℕ) (did : Answer ℕ) → did ≡ counted (listed_length j.plan - j.done) n
-    → returned j did ≡ counting j n
-unfolding counting
-counting_as j arrays n did e = rw (e, remain j arrays (listed_length j.plan - j.done) refl)
 
 -- the same by the tests of a run
 as_run : (j : Job) (n left : ℕ) (p : Progress) (fits : Bool)

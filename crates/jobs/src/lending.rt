@@ -1,7 +1,7 @@
 // A job whose blocks, places' numbers and bytes are lent, so that none is copied.
 ghost use Rattle.std.specs.Prelude.{◌≡◌};
 ghost use Rattle.job_parts.specs.Listed.{listed};
-ghost use Rattle.jobs.specs.Jobs.{did_by_run, image_after_run, next_of};
+ghost use Rattle.jobs.specs.Jobs.{did_by_run, image_after_run, steps_left, next_of, counted};
 ghost use Rattle.jobs.specs.Inner.Countable.{Countable};
 
 use job_parts::parts::Parts;
@@ -61,6 +61,20 @@ impl<'a> LentJob<'a> {
         };
         parts.run(image, granule, window);
         Ok(budget.min(left))
+    }
+
+    // How many steps remain.
+    pub fn remaining(&self) -> usize
+        ensures { result ≡ steps_left self.now }
+    {
+        super::remaining_of(self.plan, self.done)
+    }
+
+    // How many of n steps that were carried out elsewhere are counted: so many, or all that remain.
+    pub fn count(&self, n: usize) -> Result<usize, Refusal>
+        ensures { (result ≡ counted (steps_left self.now) n) × (Countable self.now.done result) }
+    {
+        super::counted_of(self.plan, self.done, n)
     }
 
     // Which step comes next.

@@ -54,7 +54,7 @@ impl Job {
     pub fn remaining(&self) -> usize
         ensures { result ≡ steps_left self.now }
     {
-        remaining_of(self.plan, self.done)
+        self.lent().remaining()
     }
 
     // Which step comes next.
@@ -68,7 +68,7 @@ impl Job {
     pub fn advance(&mut self, n: usize) -> Result<usize, Refusal>
         ensures { after_call self.new result ≡ counting self.old n }
     {
-        let counted = counted_of(self.plan, self.done, n)?;
+        let counted = self.lent().count(n)?;
         self.done += counted;
         Ok(counted)
     }

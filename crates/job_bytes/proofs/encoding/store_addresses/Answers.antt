@@ -8,6 +8,6 @@ pub returns : goal.returns
 unfolding addresses_encoded
 returns c =
     let a = c.args in
-    number_then offset_at 4 a.plan.offset _ a.out.now (omega arith) c.store32.ensures
-    (number_then first_address_at 4 a.plan.at _ c.store32.new.out (omega arith) c.store32-2.ensures
-    c.store32-3.ensures)
+    number_then offset_at 4 a.plan.offset _ a.out.now (omega arith) c.store.ensures
+    (number_then first_address_at 4 a.plan.at _ c.store.new.out (omega arith) c.store-2.ensures
+    c.store-3.ensures)

@@ -9,5 +9,5 @@ unfolding kinds_encoded
 returns c =
     let a = c.args in
     rw (← c.number_of.ensures, ← c.number_of-2.ensures)
-    (number_then first_kind_at 2 c.number_of.result _ a.out.now (omega arith) c.store16.ensures
-    c.store16-2.ensures)
+    (number_then first_kind_at 2 c.number_of.result _ a.out.now (omega arith) c.store.ensures
+    c.store-2.ensures)

@@ -8,7 +8,7 @@ pub returns : goal.returns
 unfolding sizes_encoded
 returns c =
     let a = c.args in
-    number_then len_at 8 a.plan.len _ a.out.now (omega arith) c.store64.ensures
-    (number_then granule_at 8 a.plan.granule _ c.store64.new.out (omega arith) c.store64-2.ensures
-    (number_then count_at 8 a.plan.count _ c.store64-2.new.out (omega arith) c.store64-3.ensures
-    c.store64-4.ensures))
+    number_then len_at 8 a.plan.len _ a.out.now (omega arith) c.store.ensures
+    (number_then granule_at 8 a.plan.granule _ c.store.new.out (omega arith) c.store-2.ensures
+    (number_then count_at 8 a.plan.count _ c.store-2.new.out (omega arith) c.store-3.ensures
+    c.store-4.ensures))

@@ -1,22 +1,16 @@
 -- `advance` counts steps that were carried out elsewhere. Assumes nothing.
-use mathlib.Core.Path.{sym, ◌∙◌}
-use borrow.Author.Rules.{rules}
+use mathlib.Core.Path.{◌≡◌, sym, ap, ◌∙◌}
 use Rattle.std.proofs.lemmas.Result.{err_from_is_err_and}
 use Rattle.rules.specs.Answers.{refused, given}
-use Rattle.jobs.specs.Inner.Countable.{Arrays}
-use Rattle.jobs.proofs.Counting.{counting_as}
+use Rattle.jobs.specs.Jobs.{returned, counting}
 use Rattle.jobs.proofs.Job.advance.Goals as goal
 
 pub returns-in_err-counted : goal.returns-in_err-counted
+unfolding counting
 returns-in_err-counted c =
-    let j = c.args.self.now in
-    let sizes : Arrays j = record { first = search rules; second = search rules } in
     let p = err_from_is_err_and c.from_residual.result c.from_residual.ensures.1 in
-    rw (p.1, p.2)
-    (counting_as j sizes c.args.n (refused c.in_err-counted.field-0.0) (sym c.in_err-counted.was ∙ c.counted_of.ensures.0))
+    rw (p.1, p.2) (ap (returned c.args.self.now) (sym c.in_err-counted.was ∙ c.count.ensures.0 ∙ rw c.lent.ensures))
 
 pub returns : goal.returns
-returns c =
-    let j = c.args.self.now in
-    let sizes : Arrays j = record { first = search rules; second = search rules } in
-    counting_as j sizes c.args.n (given c.in_ok-counted.counted) (sym c.in_ok-counted.was ∙ c.counted_of.ensures.0)
+unfolding counting
+returns c = ap (returned c.args.self.now) (sym c.in_ok-counted.was ∙ c.count.ensures.0 ∙ rw c.lent.ensures)
