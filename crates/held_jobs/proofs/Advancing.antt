@@ -1,35 +1,28 @@
 -- The number of steps done stored anew: every other field is read as it was. Assumes nothing.
 use mathlib.Core.Path.{◌≡◌, refl, sym, ap, ◌∙◌}
-use mathlib.Core.Bool.{true}
+use mathlib.Core.Bool.{Bool, true, false}
 use mathlib.Core.List.{List, ◌++◌}
-use Prim.Native.Nat.{ℕ, ◌+◌, ◌*◌, ◌-◌, ◌^◌, ◌≤◌, ◌<◌}
+use Prim.Native.Nat.{ℕ, ◌+◌, ◌^◌, ◌≤◌, ◌<◌}
 use native.Mathlib.Omega.{arith}
 use lib.Dec.{eqb}
 use lib.ListN.{length, take, drop}
 use lib.Seq.{take_at, drop_at, drop-drop, length-take-le}
 use borrow.Author.Tests.{eqb-true}
-use Rattle.rules.specs.Bytes.{block_size, bytes_of, field}
-use Rattle.rules.specs.Answers.{given, unless}
+use Rattle.rules.specs.Bytes.{bytes_of, field}
+use Rattle.rules.specs.Answers.{Answer, refused, given, unless}
 use Rattle.rules.specs.declared.Refusal.{Refusal}
 use Rattle.rules.specs.Final.{put_at}
 use Rattle.rules.proofs.Lists.Tests.{and_true}
 use Rattle.rules.proofs.Lists.Words.{length-bytes_of}
 use Rattle.rules.proofs.Lists.ByteLists.{field_by_front}
 use Rattle.fields.proofs.Stored.{length-put_at}
-use Rattle.jobs.specs.Jobs.{place_room, advanced, returned, RanBy, did_by_run, image_after_run, steps_left, counted, counting}
-use Rattle.job_parts.specs.Inner.Parts.{listed_length}
-use Rattle.jobs.specs.Inner.Countable.{Countable}
+use Rattle.jobs.specs.Jobs.{Ran, admitted, ran, advanced, returned, RanBy, did_by_run, image_after_run, steps_left, counted, counting}
 use Rattle.jobs.specs.declared.Job.{Job}
-use Rattle.jobs.specs.declared.Ran.{Ran}
-use Rattle.jobs.specs.declared.Did.{Did}
-use Rattle.jobs.specs.declared.Did.TheVariants.{Steps, Refused}
-use Rattle.jobs.proofs.Running.{Arrays, remain, run_returned, run_countable}
+use Rattle.jobs.proofs.Running.{run_returned}
 use Rattle.job_bytes.specs.Form.{len_at, granule_at, count_at, done_at, offset_at}
-use Rattle.job_bytes.specs.Form.{value_at, places_at, first_block_at, second_block_at}
-use Rattle.job_bytes.specs.Form.{job_size, plan_from, job_from, holds_job, decoded}
-use Rattle.held_jobs.specs.Running.{bytes_after, RanHere, CountedHere}
+use Rattle.job_bytes.specs.Form.{job_size, malformed, plan_from, job_from, holds_job, decoded}
+use Rattle.held_jobs.specs.Running.{bytes_after, RanOver, CountedOver}
 use Rattle.job_bytes.proofs.Numbers.{field_read}
-use Rattle.job_bytes.proofs.Filling.{length_stretch}
 
 -- ---- bytes put somewhere else
 
@@ -51,26 +44,6 @@ module _ (at : ℕ) (ws bs : List ℕ) (inside : at + length ws ≤ length bs) w
       sym (drop-drop n (at + length ws) (put_at at ws bs))
       ∙ rw (← drop-drop (length ws) at (put_at at ws bs), put_here, drop_at ws rest (length ws) refl)
       (drop-drop n (at + length ws) bs)
-
--- ---- the arrays of a job that bytes hold
-
-pub arrays_held : (bs : List ℕ) → length bs ≡ job_size → Arrays (job_from bs)
-unfolding job_from
-arrays_held bs whole =
-    let places = length_stretch bs places_at (2 * place_room) (omega arith) in
-    let value = length_stretch bs value_at 8 (omega arith) in
-    record {
-      first = record {
-        block = length_stretch bs first_block_at block_size (omega arith);
-        places = places;
-        value = value;
-      };
-      second = record {
-        block = length_stretch bs second_block_at block_size (omega arith);
-        places = places;
-        value = value;
-      };
-    }
 
 -- ---- a job further on
 
@@ -141,60 +114,74 @@ decoded_further bs n holds small =
     let d = field done_at 8 bs + n in
     rw (still_holds bs holds d, further bs holds d small) (unfold job_from in refl)
 
+-- bytes that are decoded hold that job
+pub held : (bs : List ℕ) (j : Job) → decoded bs ≡ given j → (holds_job bs ≡ true) × (j ≡ job_from bs)
+unfolding decoded unless
+held bs j e = from (holds_job bs) e
+  where
+    from : (t : Bool) → unless malformed t (given (job_from bs)) ≡ given j → (t ≡ true) × (j ≡ job_from bs)
+    from true d = (refl, cc)
+    from false d = absurd (let z : ◌≡◌ {A = ℕ} 0 1 = cc in omega arith)
+
 -- ---- by what was done
 
-module _ (bs : List ℕ) (holds : holds_job bs ≡ true) where
-  pub kept_here : (why : Refusal) → (bs ≡ bytes_after bs (Refused why))
-      × (decoded bs ≡ given (returned (job_from bs) (Refused why)).job)
-  unfolding bytes_after decoded unless
-  kept_here why = (refl, rw holds)
+pub raised : (bs : List ℕ) (n done : ℕ) (bs' : List ℕ)
+    → holds_job bs ≡ true
+    → done ≡ field done_at 8 bs
+    → done + n < 256 ^ 8
+    → bs' ≡ put_at done_at (bytes_of 8 (done + n)) bs
+    → (bs' ≡ bytes_after bs (given n)) × (decoded bs' ≡ given (advanced (job_from bs) n))
+unfolding bytes_after
+raised bs n done bs' holds f small b =
+    (rw f at b, rw (b, f) (decoded_further bs n holds (rw f at small)))
 
-  pub raised_here : (n done : ℕ) (bs' : List ℕ)
-      → done ≡ field done_at 8 bs
-      → done + n < 256 ^ 8
-      → bs' ≡ put_at done_at (bytes_of 8 (done + n)) bs
-      → (bs' ≡ bytes_after bs (Steps n)) × (decoded bs' ≡ given (returned (job_from bs) (Steps n)).job)
-  unfolding bytes_after
-  raised_here n done bs' f small b =
-      (rw f at b, rw (b, f) (decoded_further bs n holds (rw f at small)))
+-- bytes that hold no job
+module _ (bs : List ℕ) (why : Refusal) (r : Answer ℕ) (d : decoded bs ≡ refused why) (e : r ≡ refused why) where
+  pub none_ran : (img : List ℕ) (budget : ℕ) → RanOver budget bs img bs img r (decoded bs)
+  unfolding RanOver
+  none_ran img budget = rw d (e, (refl, refl))
 
-  abbrev j : Job
-  j = job_from bs
+  pub none_counted : (n : ℕ) → CountedOver n bs bs r (decoded bs)
+  unfolding CountedOver
+  none_counted n = rw d (e, refl)
 
-  arrays : Arrays j
-  arrays = arrays_held bs (length_of_job bs holds)
+module _ (bs : List ℕ) (j : Job) (d : decoded bs ≡ given j) where
+  -- the job that is held after n more steps
+  pub job_raised : (n : ℕ) (bs' : List ℕ) → decoded bs' ≡ given (advanced (job_from bs) n) → decoded bs' ≡ given (advanced j n)
+  job_raised n bs' h = h ∙ rw (held bs j d).1
 
   -- a run, from what it says and leaves
-  pub run_fits : (img : List ℕ) (budget : ℕ) (did : Did) → did ≡ did_by_run j budget img
-      → Countable (field done_at 8 bs) did
-  unfolding job_from
-  run_fits img budget did d = run_countable j img arrays budget did d
-
-  pub ran_here : (bs' img img' : List ℕ) (budget : ℕ) (did : Did)
+  pub ran_here : (bs' img img' : List ℕ) (budget : ℕ) (did : Answer ℕ)
       → did ≡ did_by_run j budget img
       → img' ≡ image_after_run j budget img
       → bs' ≡ bytes_after bs did
       → decoded bs' ≡ given (returned j did).job
-      → RanHere budget bs img bs' img' did
-  unfolding RanBy
-  ran_here bs' img img' budget did d e b h = record {
-    did = d;
-    image = e;
-    bytes = b;
-    holds = h ∙ ap (λ (r : Ran). given r.job) (run_returned j img budget did img' d e).0;
-  }
+      → RanOver budget bs img bs' img' did (decoded bs)
+  unfolding RanBy RanOver
+  ran_here bs' img img' budget did s e b h =
+      let same = (held bs j d).1 in
+      let job : decoded bs' ≡ given (ran j budget (admitted j img)).job =
+      h ∙ ap (λ (r : Ran). given r.job) (run_returned j img budget did img' s e).0 in
+      rw d (record {
+        did = rw same at s;
+        image = rw same at e;
+        bytes = b;
+        holds = rw same at job;
+      })
 
   -- steps counted, from what is answered
-  pub counted_here : (bs' : List ℕ) (n : ℕ) (did : Did)
-      → did ≡ counted (listed_length j.plan - j.done) n
+  pub counted_here : (bs' : List ℕ) (n : ℕ) (did : Answer ℕ)
+      → did ≡ counted (steps_left j) n
       → bs' ≡ bytes_after bs did
       → decoded bs' ≡ given (returned j did).job
-      → CountedHere n bs bs' did
-  unfolding counting
-  counted_here bs' n did d b h =
-      let left : listed_length j.plan - j.done ≡ steps_left j = remain j arrays (listed_length j.plan - j.done) refl in
-      record {
-        did = rw left at d;
+      → CountedOver n bs bs' did (decoded bs)
+  unfolding counting CountedOver
+  counted_here bs' n did s b h =
+      let same = (held bs j d).1 in
+      let job : decoded bs' ≡ given (counting j n).job =
+      h ∙ ap (λ (k : Answer ℕ). given (returned j k).job) s in
+      rw d (record {
+        did = rw same at s;
         bytes = b;
-        holds = h ∙ rw (d, left);
-      }
+        holds = rw same at job;
+      })
