@@ -1,31 +1,31 @@
 -- The boot order by place number, without a store of the slots met: a slot was met before exactly if a higher place
 -- has the same value. Assumes nothing.
 use mathlib.Core.Path.{◌≡◌, refl, sym, ap, ◌∙◌}
-use mathlib.Core.Bool.{Bool, true, false, ◌&&◌, ◌||◌}
+use mathlib.Core.Bool.{true, false, ◌||◌}
 use mathlib.Core.List.{List, [], ◌∷◌, ◌++◌}
 use Prim.Native.Nat.{ℕ, zero, suc, ◌+◌, ◌-◌, ◌≤◌, ◌<◌}
-use native.Mathlib.Numerals.{add-one}
 use native.Mathlib.Omega.{arith}
-use lib.Dec.{eqb, ltb}
-use borrow.Author.Tests.{eqb-true, eqb-false, eq-eqb, ne_eqb, ltb-true, ltb-false}
-use lib.ListN.{length, get_or, drop, length-append, length-map}
+use lib.Dec.{eqb}
+use borrow.Author.Tests.{eqb-true, eqb-false, eq-eqb, ne_eqb}
+use lib.ListN.{length, get_or, drop, set, length-append, length-map}
 use lib.Seq.{drop-cons, set_at, append_snoc}
 use Rattle.rules.specs.Lists.{member}
-use Rattle.rules.specs.Table.{Entry, slots, slot_starts}
+use Rattle.rules.specs.Table.{Entry, entries, slots, slot_starts, starts}
+use Rattle.rules.specs.Copies.{order_by}
 use Rattle.rules.specs.Pointers.{place_count, places, judged, slot_given, add_last, order}
 use Rattle.rules.specs.declared.SlotNo.{SlotNo}
 use Rattle.rules.specs.declared.Place.{Place}
 use Rattle.rules.specs.declared.Place.TheVariants.{Erased, Spent, Live, PartWritten, Stray}
-use Rattle.rules.proofs.Lists.Tests.{by_cases, and_true}
+use Rattle.rules.proofs.Lists.Tests.{by_cases}
 use Rattle.rules.proofs.Order.Clearing.{named_starts}
 use Rattle.rules.proofs.Order.OnceEach.{once_order, once_length}
 use Rattle.walks.proofs.Joined.{or_assoc, or_with_false}
 use Rattle.places.specs.Inner.Values.{place_value}
-use Rattle.place_walks.specs.Inner.Added.{added, added_at, then, growth, stored}
-use Rattle.place_walks.specs.declared.Added.{Added}
-use Rattle.place_walks.specs.declared.Added.TheVariants.{Slot, Nothing}
+use Rattle.std.specs.Prelude.{Option, None, Some}
+use Rattle.place_walks.specs.Inner.Added.{added, added_at, then}
 use Rattle.places.proofs.Values.{place_down}
-use Rattle.place_walks.proofs.Free.{FreeFrom, none_above}
+use Rattle.places.specs.Inner.FreePlace.{free_from}
+use Rattle.place_walks.proofs.Free.{free_places, none_above}
 
 -- a live place has its slot's start as its value
 pub live_start : (starts : List ℕ) (v : ℕ) (s : SlotNo) → judged starts v ≡ Live s → get_or starts s.0 0 ≡ v
@@ -82,15 +82,10 @@ order-then starts vs v = by (judged starts v) refl
     by (Stray x) e = rw e
     by (Live s) e = by_cases (member v vs) (λ m. rw (e, met starts vs v s e, m)) (λ m. rw (e, met starts vs v s e, m))
 
-length-then : (o : List ℕ) (a : Added) → length (then o a) ≡ length o + growth a
-unfolding then growth
-length-then o Nothing = omega arith
-length-then o (Slot s) = length-append o (s.0 ∷ [])
-
-growth_least : (a : Added) → growth a ≤ 1
-unfolding growth
-growth_least Nothing = omega arith
-growth_least (Slot s) = omega arith
+then_grows : (o : List ℕ) (a : Option SlotNo) → length o ≤ length (then o a)
+unfolding then
+then_grows o None = omega arith
+then_grows o (Some s) = omega (arith, length-append o (s.0 ∷ []))
 
 -- the order grows from place to place
 pub order_grows : (starts vs : List ℕ) (k : ℕ) → length (order starts (drop k vs)) ≤ length (order starts vs)
@@ -98,25 +93,11 @@ order_grows starts vs zero = omega arith
 order_grows starts [] (suc k) = omega arith
 order_grows starts (v ∷ vs) (suc k) =
     rw order-then
-    (omega (arith, order_grows starts vs k, length-then (order starts vs) (added (judged starts v) (member v vs))))
+    (omega (arith, order_grows starts vs k, then_grows (order starts vs) (added (judged starts v) (member v vs))))
 
 -- a row with an order in front of it
 abbrev pub in_front : List ℕ → List ℕ → List ℕ
 in_front o row = o ++ drop (length o) row
-
--- and one slot more
-stored-then : (o row : List ℕ) (a : Added) → length o + growth a ≤ length row
-    → stored a (length o) (in_front o row) ≡ in_front (then o a) row
-unfolding stored then growth
-stored-then o row Nothing h = refl
-stored-then o row (Slot s) h =
-    let n : length (o ++ (s.0 ∷ [])) ≡ suc (length o) = length-append o (s.0 ∷ []) ∙ add-one (length o) in
-    rw (
-      drop-cons row (length o) 0 (omega arith),
-      set_at o (get_or row (length o) 0) (drop (suc (length o)) row) s.0 (length o) refl,
-      n,
-      append_snoc,
-    )
 
 -- ---- from the free place down
 
@@ -126,40 +107,70 @@ pub record MetFrom (starts p : List ℕ) (k met : ℕ) : Type 0 where
   pub room : met + k ≤ place_count p
   pub count : met ≡ length (order starts (drop k (places p)))
 
-pub none_met : (starts p : List ℕ) (end : ℕ) → FreeFrom p end → MetFrom starts p end 0
-none_met starts p end free = record {
-  within = free.within;
-  room = omega (arith, free.within);
-  count = sym (ap length (none_above starts p end free));
-}
+pub none_met : (starts p : List ℕ) (end : ℕ) → end ≡ free_from p → MetFrom starts p end 0
+none_met starts p end e =
+    let free = free_places p in
+    rw e (record {
+      within = free.within;
+      room = omega (arith, free.within);
+      count = sym (ap length (none_above starts p (free_from p) free));
+    })
+
+pub none_before : (starts p row : List ℕ) (end : ℕ) → end ≡ free_from p
+    → row ≡ in_front (order starts (drop end (places p))) row
+none_before starts p row end e = rw (e, none_above starts p (free_from p) (free_places p))
 
 -- one turn of a walk from place k down to place k - 1
-module _ (starts p : List ℕ) (k : ℕ) (above : 0 < k) (within : k ≤ place_count p) where
-  pub order_down : order starts (drop (k - 1) (places p))
+module _ (starts p : List ℕ) (k met : ℕ) (above : 0 < k) (m : MetFrom starts p k met) where
+  order_down : order starts (drop (k - 1) (places p))
       ≡ then (order starts (drop k (places p))) (added_at starts p (k - 1))
   unfolding added_at
   order_down =
       let e : k - 1 + 1 ≡ k = omega arith in
-      rw (place_down p k above within, e) (order-then starts (drop k (places p)) (place_value p (k - 1)))
+      rw (place_down p k above m.within, e) (order-then starts (drop k (places p)) (place_value p (k - 1)))
 
-  pub length_down : length (order starts (drop (k - 1) (places p)))
-      ≡ length (order starts (drop k (places p))) + growth (added_at starts p (k - 1))
-  length_down = ap length order_down ∙ length-then (order starts (drop k (places p))) (added_at starts p (k - 1))
+  module _ (adds : added_at starts p (k - 1) ≡ None) where
+    pub same_order : order starts (drop (k - 1) (places p)) ≡ order starts (drop k (places p))
+    unfolding then
+    same_order = order_down ∙ rw adds
 
-  pub row_down : (row : List ℕ) → length (order starts (places p)) ≤ length row
-      → stored (added_at starts p (k - 1)) (length (order starts (drop k (places p))))
-      (in_front (order starts (drop k (places p))) row)
-      ≡ in_front (order starts (drop (k - 1) (places p))) row
-  row_down row room =
-      let grows = order_grows starts (places p) (k - 1) in
-      stored-then (order starts (drop k (places p))) row (added_at starts p (k - 1)) (omega (arith, length_down))
-      ∙ ap (λ (o : List ℕ). in_front o row) (sym order_down)
+    pub none_more : MetFrom starts p (k - 1) met
+    none_more = record {
+      within = omega (arith, m.within);
+      room = omega (arith, m.room);
+      count = m.count ∙ sym (ap length same_order);
+    }
 
-  pub met_down : (met : ℕ) → MetFrom starts p k met → MetFrom starts p (k - 1) (met + growth (added_at starts p (k - 1)))
-  met_down met m =
-      let down = length_down in
-      let least = growth_least (added_at starts p (k - 1)) in
-      record { within = omega arith; room = omega arith; count = omega arith }
+  module _ (s : SlotNo) (adds : added_at starts p (k - 1) ≡ Some s) where
+    more_order : order starts (drop (k - 1) (places p)) ≡ order starts (drop k (places p)) ++ (s.0 ∷ [])
+    unfolding then
+    more_order = order_down ∙ rw adds
+
+    pub one_more : MetFrom starts p (k - 1) (met + 1)
+    one_more = record {
+      within = omega (arith, m.within);
+      room = omega (arith, m.room);
+      count = omega (arith, m.count, ap length more_order, length-append (order starts (drop k (places p))) (s.0 ∷ []));
+    }
+
+    pub room_left : met < length (order starts (places p))
+    room_left = omega (arith, one_more.count, order_grows starts (places p) (k - 1))
+
+    -- a row with an order in front of it, and one slot more
+    pub row_more : (row : List ℕ) → met < length row
+        → set (in_front (order starts (drop k (places p))) row) met s.0
+        ≡ in_front (order starts (drop (k - 1) (places p))) row
+    row_more row h =
+        let o = order starts (drop k (places p)) in
+        let n : length (o ++ (s.0 ∷ [])) ≡ suc met = omega (arith, length-append o (s.0 ∷ []), m.count) in
+        rw (
+          more_order,
+          n,
+          ← m.count,
+          drop-cons row met 0 h,
+          set_at o (get_or row met 0) (drop (suc met) row) s.0 met (sym m.count),
+          append_snoc,
+        )
 
 -- ---- all slots met
 
@@ -176,10 +187,10 @@ pub order_fits : (es : List Entry) (vs : List ℕ) → length (order (slot_start
 order_fits es vs = omega (arith, order_within (slot_starts es) vs, length_starts es)
 
 -- an order that is full stays
-then_full : (o : List ℕ) (a : Added) (most : ℕ) → length (then o a) ≤ most → most ≤ length o → then o a ≡ o
+then_full : (o : List ℕ) (a : Option SlotNo) (most : ℕ) → length (then o a) ≤ most → most ≤ length o → then o a ≡ o
 unfolding then
-then_full o Nothing most h full = refl
-then_full o (Slot s) most h full = absurd (omega (arith, length-append o (s.0 ∷ [])))
+then_full o None most h full = refl
+then_full o (Some s) most h full = absurd (omega (arith, length-append o (s.0 ∷ [])))
 
 order_full : (starts vs : List ℕ) (k : ℕ) → length starts ≤ length (order starts (drop k vs))
     → order starts vs ≡ order starts (drop k vs)
@@ -193,17 +204,19 @@ order_full starts (v ∷ vs) (suc k) full =
     ∙ then_full (order starts vs) (added (judged starts v) (member v vs)) (length starts) most (rw ih full)
     ∙ ih
 
--- a walk goes on while places are left, and slots that were not met
-pub places_left : (k : ℕ) (slots_left : Bool) → ltb 0 k && slots_left ≡ true → 0 < k
-places_left k slots_left test = ltb-true 0 k (and_true (ltb 0 k) slots_left test).0
+-- where a walk has met them all, or all places, it has met the whole order
+module _ (t p : List ℕ) (k met : ℕ) (m : MetFrom (starts t) p k met) where
+  pub all_met : met ≡ length (slots (entries t)) → order (starts t) (drop k (places p)) ≡ order_by t p
+  unfolding order_by starts
+  all_met e =
+      sym (order_full (starts t) (places p) k (omega (arith, m.count, length_starts (entries t))))
 
--- where it ends, the whole order was met
-pub all_met : (es : List Entry) (p : List ℕ) (k met total : ℕ) → MetFrom (slot_starts es) p k met
-    → total ≡ length (slots es)
-    → ltb 0 k && ltb met total ≡ false
-    → order (slot_starts es) (places p) ≡ order (slot_starts es) (drop k (places p))
-all_met es p k met total m e over =
-    by_cases (ltb 0 k)
-    (λ t. order_full (slot_starts es) (places p) k
-    (omega (arith, ltb-false met total (rw t at over), m.count, length_starts es)))
-    (λ t. let z : k ≡ 0 = omega (arith, ltb-false 0 k t) in rw z)
+  pub all_walked : k ≡ 0 → order (starts t) (drop k (places p)) ≡ order_by t p
+  unfolding order_by
+  all_walked e = rw e
+
+  pub counted_met : met ≡ length (slots (entries t)) → met ≡ length (order_by t p)
+  counted_met e = m.count ∙ ap length (all_met e)
+
+  pub counted_walked : k ≡ 0 → met ≡ length (order_by t p)
+  counted_walked e = m.count ∙ ap length (all_walked e)

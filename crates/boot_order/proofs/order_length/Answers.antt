@@ -1,53 +1,23 @@
--- `boot_order::order_length` counts from the free place down until all slots are met. The invariant: the length by
--- the places above. Assumes nothing.
-use mathlib.Core.Path.{sym, ap, ◌∙◌}
-use Prim.Native.Nat.{◌<◌}
-use native.Mathlib.Omega.{arith}
-use lib.ListN.{length}
-use Rattle.rules.specs.Table.{starts, entries}
-use Rattle.rules.specs.Copies.{order_by}
-use Rattle.rules.proofs.Pointers.PointerHeader.{places_fit}
-use Rattle.places.proofs.PlacesOf.{count_is}
-use Rattle.place_walks.proofs.Free.{free_places}
-use Rattle.boot_order.proofs.BootOrder.{none_met, met_down, places_left, all_met}
+use Rattle.std.proofs.Common.{arith, sym, ◌∙◌}
+use Rattle.rules.specs.Table.{starts}
+use Rattle.boot_order.proofs.BootOrder.{none_met, none_more, one_more, counted_met, counted_walked}
 use Rattle.boot_order.proofs.order_length.Goals as goal
 
 pub loop-k-init : goal.loop-k-init
-loop-k-init c =
-    let a = c.args in
-    none_met (starts a.t.now) a.p.now a.places.free.0 (free_places a.p.now a.places c.requires.1)
+loop-k-init c = none_met (starts c.args.t.now) c.args.p.now c.free-k.result.0 c.free-k.ensures.free
 
-pub overflow_sub-k : goal.overflow_sub-k
-overflow_sub-k c =
-    let left : 0 < c.loop-k.k = places_left c.loop-k.k _ c.loop-k-test.true in left
+pub returns-then-len-total : goal.returns-then-len-total
+returns-then-len-total c = counted_met c.args.t.now c.args.p.now c.loop-k.k c.loop-k.len c.loop-k.invariant (omega arith)
 
-pub added_by-requires : goal.added_by-requires
-added_by-requires c =
-    let left : 0 < c.loop-k.k = places_left c.loop-k.k _ c.loop-k-test.true in
-    let a = c.args in
-    (c.requires.0, (c.requires.1, omega (arith, left, count_is a.p.now a.places c.requires.1)))
-
-pub overflow_add-len : goal.overflow_add-len
-overflow_add-len c =
-    let left : 0 < c.loop-k.k = places_left c.loop-k.k _ c.loop-k-test.true in
-    omega (arith, left, (places_fit c.args.p.now c.requires.1.block.stands).at_most_508)
-
-pub loop-k-smaller : goal.loop-k-smaller
-loop-k-smaller c =
-    let left : 0 < c.loop-k.k = places_left c.loop-k.k _ c.loop-k-test.true in omega (arith, left)
+pub loop-k-preserved-in-Some : goal.loop-k-preserved-in-Some
+loop-k-preserved-in-Some c =
+    one_more (starts c.args.t.now) c.args.p.now c.loop-k.k c.loop-k.len (omega arith) c.loop-k.invariant c.in-Some.field-0
+    (sym c.added_by.ensures ∙ c.in-Some.is)
 
 pub loop-k-preserved : goal.loop-k-preserved
 loop-k-preserved c =
-    let left : 0 < c.loop-k.k = places_left c.loop-k.k _ c.loop-k-test.true in
-    let a = c.args in
-    rw (c.growth_of-len.ensures.0, c.added_by.ensures)
-    (met_down (starts a.t.now) a.p.now c.loop-k.k (left) (omega arith)
-    c.loop-k.len c.loop-k.invariant)
+    none_more (starts c.args.t.now) c.args.p.now c.loop-k.k c.loop-k.len (omega arith) c.loop-k.invariant
+    (sym c.added_by.ensures ∙ c.in_default.is)
 
 pub returns : goal.returns
-unfolding starts order_by
-returns c =
-    let a = c.args in
-    let whole = all_met (entries a.t.now) a.p.now c.loop-k.k c.loop-k.len c.slot_total-total.result c.loop-k.invariant
-    c.slot_total-total.ensures.0 c.loop-k-test.false in
-    c.loop-k.invariant.count ∙ ap length (sym whole)
+returns c = counted_walked c.args.t.now c.args.p.now c.loop-k.k c.loop-k.len c.loop-k.invariant (omega arith)

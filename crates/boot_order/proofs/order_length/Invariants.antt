@@ -4,6 +4,3 @@ use Rattle.boot_order.proofs.order_length.Given as goal
 
 abbrev pub invariant-loop-k : goal.invariant-loop-k
 invariant-loop-k l = MetFrom (starts l.t) l.p l.k l.len
-
-abbrev pub decreases-loop-k : goal.decreases-loop-k
-decreases-loop-k l = l.k
