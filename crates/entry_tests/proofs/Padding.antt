@@ -1,35 +1,36 @@
--- Names padded with zeros are the same if the fields that hold them are, and those go by two words each. Assumes
+-- Names padded with zeros are the same if the fields that hold them are. Assumes
 -- nothing.
 use mathlib.Core.Path.{◌≡◌, refl, sym, ap, ◌∙◌}
-use mathlib.Core.Bool.{Bool, true, not, ◌&&◌}
+use mathlib.Core.Bool.{Bool, true, not}
 use mathlib.Core.List.{List, [], ◌∷◌, ◌++◌}
-use Prim.Native.Nat.{ℕ, suc, ◌+◌, ◌*◌, ◌-◌, ◌<◌}
+use Prim.Native.Nat.{ℕ, suc, ◌-◌}
 use native.Mathlib.Omega.{arith}
 use lib.Dec.{eqb}
-use lib.ListN.{length, take, drop, replicate, length-take, length-drop}
+use lib.ListN.{length, take, drop, replicate, length-drop}
 use lib.Seq.{take_all}
-use borrow.Author.Tests.{eq-eqb, ne_eqb, eqb-true, eqb-false}
+use Rattle.std.proofs.Common.{le_refl}
+use lib.Pointwise.{pointwise}
+use Rattle.std.proofs.Common.{nat_eq}
+use borrow.Author.Tests.{eq-eqb}
+use Rattle.std.specs.List.{list_all}
 use Rattle.rules.specs.Lists.{same, all, first_clash}
-use Rattle.rules.specs.Bytes.{Bytes, little_endian, field, up_to_zero}
-use Rattle.rules.specs.Table.{Entry, entry, name, names_differ}
+use Rattle.rules.specs.Bytes.{up_to_zero}
+use Rattle.rules.specs.Table.{Entry, name, names_differ}
 use Rattle.rules.specs.Commands.{padded_name}
 use Rattle.rules.proofs.Lists.Tests.{by_cases, clash, and_true, both_true, same_true, same_of}
-use Rattle.rules.proofs.Lists.ByteLists.{bytes_take, bytes_drop}
-use Rattle.walks.specs.Entries.{entry_at}
-use Rattle.walks.proofs.Joined.{same_parts}
 use Rattle.entry_tests.specs.Inner.Padding.{is_zero, padded, fields_differ}
 
 -- ---- the zeros after a name
 
-all_zeros : (xs : List ℕ) → all is_zero xs ≡ same xs (replicate (length xs) 0)
-unfolding all same
+all_zeros : (xs : List ℕ) → list_all is_zero xs ≡ same xs (replicate (length xs) 0)
+unfolding same
 all_zeros [] = refl
 all_zeros (x ∷ xs) = rw (all_zeros xs)
 
 zeros_after : (xs : List ℕ)
-    → all is_zero (drop (length (up_to_zero xs)) xs)
+    → list_all is_zero (drop (length (up_to_zero xs)) xs)
     ≡ same xs (up_to_zero xs ++ replicate (length xs - length (up_to_zero xs)) 0)
-unfolding up_to_zero all same
+unfolding up_to_zero same
 zeros_after [] = refl
 zeros_after (x ∷ xs) =
     by_cases (eqb x 0)
@@ -38,11 +39,15 @@ zeros_after (x ∷ xs) =
     let e : suc (length xs) - suc k ≡ length xs - k = omega arith in
     rw (t, e, eq-eqb x x refl) (zeros_after xs))
 
-pub padded_zeros : (e : Entry)
-    → length e.name_field ≡ 16
-    → all is_zero (drop (length (up_to_zero e.name_field)) e.name_field) ≡ padded e
+pub padded_zeros : (e : Entry) (name : List ℕ)
+    → name ≡ e.name_field
+    → length name ≡ 16
+    → let n = length (up_to_zero name) in list_all is_zero (take (length name - n) (drop n name)) ≡ padded e
 unfolding padded padded_name name
-padded_zeros e h = rw (← h) (zeros_after e.name_field)
+padded_zeros e name is h =
+    let n = length (up_to_zero name) in
+    let rest = take_all (length name - n) (drop n name) (simp length-drop (le_refl (length name - n))) in
+    rw rest (rw (← is, ← h) (zeros_after name))
 
 -- ---- two padded names
 
@@ -95,46 +100,9 @@ pub same_by_fields : (es : List Entry)
 unfolding all
 same_by_fields es = clash_agree padded names_differ fields_differ differ_by_fields [] es refl
 
--- ---- two fields by their words
-
-byte_first : (x y a b : ℕ) → x < 256 → y < 256 → eqb (x + 256 * a) (y + 256 * b) ≡ eqb x y && eqb a b
-byte_first x y a b h k =
-    by_cases (eqb x y)
-    (λ p. let e = eqb-true x y p in
-    by_cases (eqb a b)
-    (λ q. let f = eqb-true a b q in rw (p, q) (eq-eqb (x + 256 * a) (y + 256 * b) (omega arith)))
-    (λ q. rw (p, q) (ne_eqb (x + 256 * a) (y + 256 * b) (λ g. eqb-false a b q (omega arith)))))
-    (λ p. rw p (ne_eqb (x + 256 * a) (y + 256 * b) (λ g. eqb-false x y p (omega arith))))
-
-same_numbers : (xs ys : List ℕ)
-    → Bytes xs
-    → Bytes ys
-    → length xs ≡ length ys
-    → eqb (little_endian xs) (little_endian ys) ≡ same xs ys
-unfolding little_endian same
-same_numbers [] [] hx hy l = refl
-same_numbers [] (y ∷ ys) hx hy l = absurd (omega arith)
-same_numbers (x ∷ xs) [] hx hy l = absurd (omega arith)
-same_numbers (x ∷ xs) (y ∷ ys) hx hy l =
-    byte_first x y (little_endian xs) (little_endian ys) (hx 0) (hy 0)
-    ∙ rw (same_numbers xs ys (λ i. hx (suc i)) (λ i. hy (suc i)) (omega arith))
-
--- the last 8 of 16 bytes
-last_half : (x : List ℕ) → length x ≡ 16 → take 8 (drop 8 x) ≡ drop 8 x
-last_half x h = take_all 8 (drop 8 x) (simp length-drop (omega arith))
-
-pub same_by_words : (x y : List ℕ)
-    → Bytes x
-    → Bytes y
-    → length x ≡ 16
-    → length y ≡ 16
-    → same x y ≡ eqb (field 0 8 x) (field 0 8 y) && eqb (field 8 8 x) (field 8 8 y)
-unfolding field
-same_by_words x y bx by hx hy =
-    let front = same_numbers (take 8 x) (take 8 y) (bytes_take 8 x bx) (bytes_take 8 y by) (simp length-take (omega arith)) in
-    let back = same_numbers (drop 8 x) (drop 8 y) (bytes_drop 8 x bx) (bytes_drop 8 y by) (simp length-drop (omega arith)) in
-    rw (last_half x hx, last_half y hy, front, back) (same_parts 8 x y (hx ∙ sym hy))
-
-pub name_bytes : (t : List ℕ) (i : ℕ) → Bytes t → Bytes (entry_at t i).name_field
-unfolding entry_at entry
-name_bytes t i h = bytes_take 16 (drop (0x20 + 32 * i) t) (bytes_drop (0x20 + 32 * i) t h)
+pub same_pointwise : (xs ys : List ℕ) → pointwise nat_eq xs ys ≡ same xs ys
+unfolding same
+same_pointwise [] [] = refl
+same_pointwise [] (y ∷ ys) = refl
+same_pointwise (x ∷ xs) [] = refl
+same_pointwise (x ∷ xs) (y ∷ ys) = rw (same_pointwise xs ys)
