@@ -3,7 +3,7 @@
 
 ghost use Rattle.std.specs.Prelude.{◌≡◌, ◌+◌, ◌*◌, ◌≤◌, ◌<◌, eqb, length, take, get_or};
 ghost use Rattle.rules.specs.Bytes.{block_size, up_to_zero};
-ghost use Rattle.rules.specs.Lists.{keep};
+ghost use Rattle.rules.specs.Lists.{all, keep};
 ghost use Rattle.rules.specs.Table.{entry_count, rows, entries, has_name, named, no_entry, name};
 ghost use Rattle.walks.specs.Find.{find};
 ghost use Rattle.entries.specs.Tests.{Decides, Found};
@@ -167,6 +167,19 @@ impl<'a> Entries<'a> {
             met += usize::from(test(&self.get(EntryNo(i))));
         }
         met
+    }
+
+    // Every entry passes a test.
+    pub fn all<F: Fn(&Entry<'_>) -> bool>(&self, test: F) -> bool
+        requires { F.IsAlwaysCallable test }
+        ensures { (p : _) → Decides F.Fn test p self.now → result ≡ all p self.now }
+    {
+        for i in 0..self.len() {
+            if !test(&self.get(EntryNo(i))) {
+                return false;
+            }
+        }
+        true
     }
 
     // The first entry that passes a test.

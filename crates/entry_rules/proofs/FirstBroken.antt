@@ -9,11 +9,10 @@ use native.Mathlib.Omega.{arith}
 use lib.Dec.{eqb}
 use borrow.Author.Tests.{eq-eqb, ne_eqb, eqb-true, eqb-false}
 use Rattle.rules.specs.Lists.{all, pairwise, first_failing, first_clash}
-use Rattle.rules.specs.Table.{Entry, rows}
+use lib.ListN.{length, get_or, drop}
+use Rattle.rules.specs.Table.{Entry, no_entry}
 use Rattle.rules.proofs.Lists.Tests.{by_cases}
 use Rattle.rules.proofs.Lists.FirstBroken.{none_fails, none_clashes}
-use Rattle.rules.proofs.Table.Standing.{length-entries_from}
-use Rattle.walks.specs.Entries.{entry_at}
 use Rattle.entry_rules.specs.Inner.Rules.{entries_before}
 
 -- ---- the walks; `xs` is what is left to walk
@@ -48,41 +47,43 @@ module _ {A : Type 0} {xs : List A} where
       clash_goes e h = rw (e, h)
 
 -- one more entry is before the next
-pub before_next : (t : List ℕ) (k : ℕ) → entries_before t (k + 1) ≡ entry_at t k ∷ entries_before t k
+pub before_next : (es : List Entry) (k : ℕ) → entries_before es (k + 1) ≡ get_or es k no_entry ∷ entries_before es k
 unfolding entries_before
-before_next t k = rw add-one
+before_next es k = rw add-one
 
 -- one that fails is among those before a later one
-pub one_before_fails : (f : Entry → Bool) (t : List ℕ) (k n : ℕ)
+pub one_before_fails : (f : Entry → Bool) (es : List Entry) (k n : ℕ)
     → k < n
-    → f (entry_at t k) ≡ false
-    → all f (entries_before t n) ≡ false
+    → f (get_or es k no_entry) ≡ false
+    → all f (entries_before es n) ≡ false
 unfolding all entries_before
-one_before_fails f t k zero l h = absurd (omega arith)
-one_before_fails f t k (suc n) l h =
+one_before_fails f es k zero l h = absurd (omega arith)
+one_before_fails f es k (suc n) l h =
     by_cases (eqb k n)
     (λ u. rw (← eqb-true k n u, h))
-    (λ u. rw (one_before_fails f t k n (omega (arith, eqb-false k n u)) h) (and_false (f (entry_at t n))))
+    (λ u. rw (one_before_fails f es k n (omega (arith, eqb-false k n u)) h) (and_false (f (get_or es n no_entry))))
   where
     and_false : (a : Bool) → a && false ≡ false
     and_false true = refl
     and_false false = refl
 
--- ---- the number of entries where all keep the rule
+-- a search from the first entry
+pub clash_from_0 : (f : Entry → Entry → Bool) (es : List Entry)
+    → 0 + first_clash f (entries_before es 0) (drop 0 es) ≡ first_clash f [] es
+unfolding entries_before
+clash_from_0 f es = omega arith
 
-module _ (n : ℕ) (t : List ℕ) {e : ℕ} where
-  pub all_by_number : (f : Entry → Bool) → e ≡ first_failing f (rows n t) → eqb e n ≡ all f (rows n t)
-  all_by_number f h = rw (h, ← none_fails f (rows n t), length-entries_from)
+-- ---- what is found tells whether all keep the rule
 
-  pub pairs_by_number : (f : Entry → Entry → Bool)
-      → e ≡ first_clash f [] (rows n t)
-      → eqb e n ≡ pairwise f (rows n t)
-  pairs_by_number f h = rw (h, ← none_clashes f (rows n t), length-entries_from)
+module _ {A : Type 0} (xs : List A) where
+  pub kept : (f : A → Bool) → first_failing f xs ≡ length xs → all f xs ≡ true
+  kept f h = sym (none_fails f xs) ∙ eq-eqb (first_failing f xs) (length xs) h
 
--- what the test of such a number tells of the rule
-module _ {e n : ℕ} {rule : Bool} (known : eqb e n ≡ rule) where
-  pub kept : e ≡ n → rule ≡ true
-  kept h = sym known ∙ eq-eqb e n h
+  pub not_kept : (f : A → Bool) → first_failing f xs < length xs → all f xs ≡ false
+  not_kept f h = sym (none_fails f xs) ∙ ne_eqb (first_failing f xs) (length xs) (λ e. omega arith)
 
-  pub not_kept : (e ≡ n → ⊥) → rule ≡ false
-  not_kept h = sym known ∙ ne_eqb e n h
+  pub pairs_kept : (f : A → A → Bool) → first_clash f [] xs ≡ length xs → pairwise f xs ≡ true
+  pairs_kept f h = sym (none_clashes f xs) ∙ eq-eqb (first_clash f [] xs) (length xs) h
+
+  pub pairs_not_kept : (f : A → A → Bool) → first_clash f [] xs < length xs → pairwise f xs ≡ false
+  pairs_not_kept f h = sym (none_clashes f xs) ∙ ne_eqb (first_clash f [] xs) (length xs) (λ e. omega arith)

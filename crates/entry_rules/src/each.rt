@@ -1,86 +1,63 @@
-// What a rule asks of each entry, or of each two: the first of a table's n entries that does not keep it.
-ghost use Rattle.std.specs.Prelude.{◌≡◌, ◌+◌, ◌≤◌, ◌<◌, drop};
+// The first entry that does not keep a rule which is lent as a test, by itself or with an earlier one.
+ghost use Rattle.std.specs.Prelude.{◌≡◌, ◌+◌, ◌≤◌, ◌<◌, length, get_or, drop};
 ghost use Rattle.rules.specs.Lists.{all, first_failing, first_clash};
-ghost use Rattle.rules.specs.Table.{rows};
-ghost use Rattle.walks.specs.Entries.{HasEntries, HasEntry, HasBoth, entry_at};
-ghost use Rattle.entry_rules.specs.Inner.Rules.{keeps, divisor, both_keep, entries_before};
+ghost use Rattle.rules.specs.Table.{no_entry};
+ghost use Rattle.entries.specs.Tests.{Decides, Found};
+ghost use Rattle.entry_rules.specs.Inner.Rules.{DecidesPairs, entries_before};
 
-use super::{PairRule, Rule};
-use entry_tests::{named, naming, ranges};
+use entries::{Entries, Entry};
 use rules::EntryNo;
 
-fn entry_keeps(rule: Rule, table: &[u8], e: EntryNo) -> bool
-    requires { HasEntry table.now e.0 × (0 < divisor rule) }
-    ensures { result ≡ keeps rule (entry_at table.now e.0) }
+// The first entry that does not keep a rule.
+pub fn first_failing<F: Fn(&Entry<'_>) -> bool>(entries: &Entries<'_>, keeps: F) -> Option<EntryNo>
+    requires { F.IsAlwaysCallable keeps }
+    ensures { (p : _) → Decides F.Fn keeps p entries.now
+        → Found entries.now (first_failing p entries.now) result }
 {
-    match rule {
-        Rule::NameRight => naming::name_is_right(table, e),
-        Rule::NamePadded => naming::name_is_padded(table, e),
-        Rule::RangeAligned => ranges::range_is_aligned(table, e),
-        Rule::RangeInside(len) => ranges::range_is_inside(table, e, len),
-        Rule::BootInfoRight => named::starts_if_named(table, e, &names::BOOT_INFO, 0),
-        Rule::TableAsTold(spt0, spt1) => named::table_is_as_told(table, e, spt0, spt1),
-        Rule::BlockOnGranules(granule) => named::block_is_on_granules(table, e, granule),
-    }
-}
-
-fn pair_keeps(rule: PairRule, table: &[u8], d: EntryNo, e: EntryNo) -> bool
-    requires { HasBoth table.now d.0 e.0 }
-    ensures { result
-        ≡ both_keep rule (entry_at table.now d.0) (entry_at table.now e.0) }
-{
-    match rule {
-        PairRule::NamesDiffer => naming::names_differ(table, d, e),
-        PairRule::FieldsDiffer => naming::fields_differ(table, d, e),
-        PairRule::RangesApart => ranges::ranges_are_apart(table, d, e),
-    }
-}
-
-// The number of the first of n entries that does not keep the rule; n where all keep it.
-pub fn first_failing(rule: Rule, table: &[u8], n: usize) -> EntryNo
-    requires { HasEntries table.now n × (0 < divisor rule) }
-    ensures { result.0 ≡ first_failing (keeps rule) (rows n table.now) }
-{
-    let mut i = 0;
-    while i < n {
-        if !entry_keeps(rule, table, EntryNo(i)) {
-            return EntryNo(i);
+    for i in 0..entries.len() {
+        if !keeps(&entries.get(EntryNo(i))) {
+            return Some(EntryNo(i));
         }
-        i += 1;
     }
-    EntryNo(n)
+    None
 }
 
-// The number of the first entry, from one on, that does not keep the rule with an earlier one; n where all keep it.
-pub fn first_clash(rule: PairRule, table: &[u8], n: usize, from: EntryNo) -> EntryNo
-    requires { HasEntries table.now n × (from.0 ≤ n) }
-    ensures { result.0
-        ≡ from.0
-        + first_clash (both_keep rule) (entries_before table.now from.0)
-        (drop from.0 (rows n table.now)) }
+// The first entry, from one on, that does not keep a rule with an earlier one.
+pub fn first_clash<F: Fn(&Entry<'_>, &Entry<'_>) -> bool>(
+    entries: &Entries<'_>,
+    keep: F,
+    from: EntryNo,
+) -> Option<EntryNo>
+    requires callable { F.IsAlwaysCallable keep }
+    requires within { from.0 ≤ length entries.now }
+    ensures { (p : _) → DecidesPairs F.Fn keep p entries.now
+        → Found entries.now
+        (from.0 + first_clash p (entries_before entries.now from.0) (drop from.0 entries.now)) result }
 {
-    let mut i = from.0;
-    while i < n {
-        if !earlier_keep(rule, table, EntryNo(i)) {
-            return EntryNo(i);
+    for i in from.0..entries.len() {
+        if !earlier_keep(entries, &keep, EntryNo(i)) {
+            return Some(EntryNo(i));
         }
-        i += 1;
     }
-    EntryNo(n)
+    None
 }
 
 // An entry keeps the rule with each earlier one.
-fn earlier_keep(rule: PairRule, table: &[u8], e: EntryNo) -> bool
-    requires { HasEntry table.now e.0 }
-    ensures { result
-        ≡ all (λ d. both_keep rule d (entry_at table.now e.0)) (entries_before table.now e.0) }
+fn earlier_keep<F: Fn(&Entry<'_>, &Entry<'_>) -> bool>(
+    entries: &Entries<'_>,
+    keep: &F,
+    e: EntryNo,
+) -> bool
+    requires callable { F.IsAlwaysCallable keep.now }
+    requires within { e.0 < length entries.now }
+    ensures { (p : _) → DecidesPairs F.Fn keep.now p entries.now
+        → result ≡ all (λ d. p d (get_or entries.now e.0 no_entry)) (entries_before entries.now e.0) }
 {
-    let mut k = 0;
-    while k < e.0 {
-        if !pair_keeps(rule, table, EntryNo(k), e) {
+    let this = entries.get(e);
+    for k in 0..e.0 {
+        if !keep(&entries.get(EntryNo(k)), &this) {
             return false;
         }
-        k += 1;
     }
     true
 }

@@ -1,34 +1,26 @@
--- `entry_rules::each::first_failing` meets its contract. The loop's invariant: the entry looked for comes as many entries later as
--- were walked. Assumes nothing.
-use Prim.Native.Nat.{◌-◌}
-use native.Mathlib.Omega.{arith}
-use Rattle.walks.proofs.Joined.{failed, passed}
-use Rattle.walks.proofs.Entries.{entries_turn, entries_end}
-use Rattle.entry_rules.specs.Inner.Rules.{keeps}
+use Rattle.std.proofs.Common.{arith, sym, ◌≡◌, ◌<◌, false, true, length, drop_of_length-le}
+use Rattle.std.proofs.lemmas.Fn.{says_at}
+use Rattle.rules.specs.Lists.{first_failing}
+use Rattle.entries.proofs.Turns.{turn}
 use Rattle.entry_rules.proofs.FirstBroken.{failing_over, failing_here, failing_goes}
-use mathlib.Core.Path.{ap}
-use mathlib.Core.Bool.{not}
 use Rattle.entry_rules.proofs.each.first_failing.Goals as goal
 
-pub returns-then-not-entry_keeps : goal.returns-then-not-entry_keeps
-returns-then-not-entry_keeps c =
-    let a = c.args in
-    let turn = entries_turn a.n c.loop-i.i a.table.now (omega arith) in
-    let here = failing_here (keeps a.rule) turn
-    (failed c.entry_keeps.ensures (ap not c.if-not-entry_keeps.true)) in
-    omega (arith, c.loop-i.invariant.1, here)
+pub returns-then-not-keeps : goal.returns-then-not-keeps
+returns-then-not-keeps g c p d =
+    let es = c.args.entries.now in
+    let inside : c.loop-i.i < length es = omega arith in
+    let fails = sym (d.gives c.loop-i.i false inside (rw c.get.ensures at (says_at g.F.Fn c.keeps.ensures c.if-not-keeps.true))) in
+    let here : c.loop-i.i ≡ first_failing p es = omega (arith, c.loop-i.invariant p d, failing_here p (turn es c.loop-i.i inside) fails) in
+    record { some = (here, omega arith); none = tt }
 
 pub loop-i-preserved : goal.loop-i-preserved
-loop-i-preserved c =
-    let a = c.args in
-    let turn = entries_turn a.n c.loop-i.i a.table.now (omega arith) in
-    let goes = failing_goes (keeps a.rule) turn
-    (passed c.entry_keeps.ensures (ap not c.if-not-entry_keeps.false)) in
-    (omega arith, omega (arith, c.loop-i.invariant.1, goes))
+loop-i-preserved g c p d =
+    let es = c.args.entries.now in
+    let inside : c.loop-i.i < length es = omega arith in
+    let passes = sym (d.gives c.loop-i.i true inside (rw c.get.ensures at (says_at g.F.Fn c.keeps.ensures c.if-not-keeps.false))) in
+    omega (arith, c.loop-i.invariant p d, failing_goes p (turn es c.loop-i.i inside) passes)
 
 pub returns : goal.returns
-returns c =
-    let a = c.args in
-    let over = failing_over (keeps a.rule)
-    (entries_end a.n c.loop-i.i a.table.now (omega arith)) in
-    omega (arith, c.loop-i.invariant.0, c.loop-i.invariant.1, over)
+returns g c p d =
+    let over = failing_over p (drop_of_length-le c.args.entries.now {i = c.loop-i.i} (omega arith)) in
+    record { some = tt; none = omega (arith, c.loop-i.invariant p d, over) }

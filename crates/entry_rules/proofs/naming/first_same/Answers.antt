@@ -1,20 +1,22 @@
--- `entry_rules::naming::first_same` meets its contract: padded names differ if their fields do. Assumes nothing.
-use native.Mathlib.Omega.{arith}
-use Rattle.rules.specs.Table.{rows}
-use Rattle.entry_rules.specs.Inner.Rules.{keeps, both_keep, entries_before}
-use Rattle.entry_tests.specs.Inner.Padding.{padded}
+-- Padded names differ if their fields do.
+use Rattle.std.proofs.Common.{rules, subst, sym, ◌∙◌, ◌≡◌, ℕ, true}
+use Rattle.rules.specs.Lists.{all}
+use Rattle.rules.specs.Table.{names_differ}
+use Rattle.entries.specs.Tests.{Found}
+use Rattle.entry_tests.specs.Inner.Padding.{padded, fields_differ}
 use Rattle.entry_tests.proofs.Padding.{same_by_fields}
-use Rattle.entry_rules.proofs.FirstBroken.{all_by_number, kept}
+use Rattle.entry_rules.proofs.FirstBroken.{clash_from_0}
 use Rattle.entry_rules.proofs.naming.first_same.Goals as goal
 
-pub returns-then-other-n : goal.returns-then-other-n
-unfolding keeps both_keep entries_before
-returns-then-other-n c =
-    let a = c.args in
-    let known = all_by_number a.n a.table.now padded c.first_failing-other.ensures in
-    let by-fields = same_by_fields (rows a.n a.table.now) (kept known c.if-other-n.true) in
-    rw by-fields (omega (arith, c.first_clash.ensures))
+pub returns-then-all : goal.returns-then-all
+returns-then-all c =
+    let es = c.args.entries.now in
+    let all_padded : all padded es ≡ true = sym (c.all.ensures padded (search rules)) ∙ c.if-all.true in
+    subst (λ (i : ℕ). Found es i c.first_clash.result) (clash_from_0 fields_differ es ∙ sym (same_by_fields es all_padded))
+    (c.first_clash.ensures fields_differ (search rules))
 
 pub returns : goal.returns
-unfolding both_keep entries_before
-returns c = omega (arith, c.first_clash-2.ensures)
+returns c =
+    let es = c.args.entries.now in
+    subst (λ (i : ℕ). Found es i c.first_clash-2.result) (clash_from_0 names_differ es)
+    (c.first_clash-2.ensures names_differ (search rules))
