@@ -4,7 +4,6 @@ use Rattle.rules.specs.Answers.{Answer, refused, given, ◌>>=◌, number_of}
 use Rattle.rules.specs.Cuts.{Progress, run}
 use Rattle.jobs.specs.Jobs.{admitted, steps_done, advanced}
 use Rattle.jobs.specs.declared.Job.{Job}
-use Rattle.jobs.specs.declared.Did.TheVariants.{Steps}
 use Rattle.job_bytes.specs.Form.{decoded}
 use Rattle.held_jobs.specs.Running.{bytes_after}
 
@@ -35,4 +34,4 @@ RanAs r budget before after (given w) =
     × ((decoded after.job ≡ given (advanced w.job (steps_done budget w.progress)))
     × ((after.image ≡ (run w.job.plan.granule budget w.progress).image)
     × ((after.done ≡ steps_done budget w.progress)
-    × (after.job ≡ bytes_after before.job (Steps (steps_done budget w.progress))))))
+    × (after.job ≡ bytes_after before.job (given (steps_done budget w.progress))))))

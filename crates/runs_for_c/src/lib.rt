@@ -5,8 +5,8 @@ ghost use Rattle.runs_for_c.specs.Counted.{Counted};
 ghost use Rattle.runs_for_c.specs.Ran.{lent, running, RanAs};
 ghost use Rattle.runs_for_c.specs.Told.{RemainingTold, NextTold};
 
-use jobs::Did;
-use rules::refusals::NOT_A_JOB;
+use codes::steps::step_code;
+use job_fields::job_in;
 
 // Does as many steps as the budget says, or all that remain, and tells how many.
 pub fn run(job: &mut [u8], image: &mut [u8], budget: usize, done: &mut usize) -> u8
@@ -14,13 +14,9 @@ pub fn run(job: &mut [u8], image: &mut [u8], budget: usize, done: &mut usize) ->
         (lent job.new image.new done.new)
         (running job.old image.old) }
 {
-    if !job_fields::is_job(job) {
-        return NOT_A_JOB;
-    }
-    let did = held_jobs::run(job, image, budget);
-    match did {
-        Did::Refused(why) => why.number,
-        Did::Steps(n) => {
+    match held_jobs::run(job, image, budget) {
+        Err(why) => why.number(),
+        Ok(n) => {
             *done = n;
             0
         }
@@ -31,11 +27,13 @@ pub fn run(job: &mut [u8], image: &mut [u8], budget: usize, done: &mut usize) ->
 pub fn remaining(job: &[u8], count: &mut usize) -> u8
     ensures { RemainingTold job.now result count.old count.new }
 {
-    if !job_fields::is_job(job) {
-        return NOT_A_JOB;
+    match job_in(job) {
+        Err(why) => why.number(),
+        Ok(held) => {
+            *count = held.remaining();
+            0
+        }
     }
-    *count = held_jobs::remaining(job);
-    0
 }
 
 // Which step comes next: 0 for none, 1 for a byte programmed at an address, 2 for a granule erased there.
@@ -45,27 +43,25 @@ pub fn next_step(job: &[u8], kind: &mut u8, address: &mut usize, byte: &mut u8) 
         address.old address.new
         byte.old byte.new }
 {
-    if !job_fields::is_job(job) {
-        return NOT_A_JOB;
+    match job_in(job) {
+        Err(why) => why.number(),
+        Ok(held) => {
+            let code = step_code(held.next_step());
+            *kind = code.kind;
+            *address = code.address;
+            *byte = code.byte;
+            0
+        }
     }
-    let code = codes::steps::step_code(held_jobs::next_step(job));
-    *kind = code.kind;
-    *address = code.address;
-    *byte = code.byte;
-    0
 }
 
 // Counts steps that were carried out elsewhere: so many, or all that remain; tells how many.
 pub fn advance(job: &mut [u8], steps: usize, count: &mut usize) -> u8
     ensures { Counted steps result job.old job.new count.old count.new }
 {
-    if !job_fields::is_job(job) {
-        return NOT_A_JOB;
-    }
-    let did = held_jobs::advance(job, steps);
-    match did {
-        Did::Refused(why) => why.number,
-        Did::Steps(n) => {
+    match held_jobs::advance(job, steps) {
+        Err(why) => why.number(),
+        Ok(n) => {
             *count = n;
             0
         }

@@ -1,31 +1,17 @@
 -- `advance` counts steps of the job that bytes hold. Assumes nothing.
-use Rattle.runs_for_c.proofs.Held.{holds_none, holds_one, job_held}
-use Rattle.runs_for_c.proofs.AfterCount.{count_malformed, count_refused, count_told}
-use mathlib.Core.Path.{ap}
-use mathlib.Core.Bool.{not}
+use Rattle.rules.specs.Answers.{refused, given}
+use Rattle.codes.specs.Answered.{number, kept}
+use Rattle.runs_for_c.proofs.AfterCount.{count_told}
 use Rattle.runs_for_c.proofs.advance.Goals as goal
 
-pub returns-then-not-is_job : goal.returns-then-not-is_job
-returns-then-not-is_job c =
+pub returns-in-Err : goal.returns-in-Err
+unfolding number kept
+returns-in-Err c =
     let a = c.args in
-    count_malformed a.job.now a.steps a.count.now
-    (holds_none a.job.now c.is_job.result c.is_job.ensures (ap not c.if-not-is_job.true))
+    rw c.number.ensures (count_told a.steps a.job.now c.advance.new.job a.count.now (refused c.in-Err.why) c.in-Err.ensures)
 
-pub advance-did-requires : goal.advance-did-requires
-advance-did-requires c =
+pub returns-in-Ok : goal.returns-in-Ok
+unfolding number kept
+returns-in-Ok c =
     let a = c.args in
-    holds_one a.job.now c.is_job.result c.is_job.ensures (ap not c.if-not-is_job.false)
-
-pub returns-in-Refused : goal.returns-in-Refused
-returns-in-Refused c =
-    let a = c.args in
-    count_refused a.job.now c.advance-did.new.job a.steps a.count.now
-    (job_held a.job.now c.is_job.result c.is_job.ensures (ap not c.if-not-is_job.false)) c.advance-did.result
-    c.advance-did.ensures c.in-Refused.is
-
-pub returns-in-Steps : goal.returns-in-Steps
-returns-in-Steps c =
-    let a = c.args in
-    count_told a.job.now c.advance-did.new.job a.steps a.count.now
-    (job_held a.job.now c.is_job.result c.is_job.ensures (ap not c.if-not-is_job.false)) c.advance-did.result
-    c.advance-did.ensures c.in-Steps.is
+    count_told a.steps a.job.now c.advance.new.job a.count.now (given c.in-Ok.n) c.in-Ok.ensures
