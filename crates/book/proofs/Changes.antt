@@ -100,7 +100,7 @@ pub started_taken : (s : Setting) (img : List ℕ) (c : Command) (ss : List Step
     → reading s img ≡ given r
     → start s img c ≡ given ss
     → taken s img c r ≡ changed s img c r
-unfolding taken reading start ◌>>=◌
+unfolding taken reading start
 started_taken s img c ss r er es =
     let (v, ev, q) = bind_given (view s img) (λ v. given (read_by img v)) r er in
     let same : read_by img v ≡ r = given_inj (read_by img v) r q in

@@ -58,7 +58,7 @@ as_refused a b e = let same : a ≡ b = cc in rw same
 
 module _ (s : Setting) (img row : List ℕ) (whole : length row ≡ room) where
   order_there : (v : View) → view s img ≡ given v → order_list s img (length row) ≡ given (boot_order img v)
-  unfolding order_list order_in unless ◌>>=◌
+  unfolding order_list order_in unless
   order_there v e =
       rw (e, le-leb (length (boot_order img v)) (length row) (omega (arith, short_order s img v e)))
 
@@ -99,7 +99,7 @@ module _ (s : Setting) (img row : List ℕ) (whole : length row ≡ room) where
           (is_row : after ≡ row_after (order_list s img (length row)) row) where
         read_by_view : (v : View) → view s img ≡ given v
             → given (record { table = t; boot = take n after }) ≡ reading s img
-        unfolding reading read_by table_part table_of row_after count_of ◌>>=◌
+        unfolding reading read_by table_part table_of row_after count_of
         read_by_view v e =
             let o : List ℕ = boot_order img v in
             let count : n ≡ length o = given_inj n (length o) (rw (order_there v e) at said) in

@@ -21,14 +21,14 @@ module _ {B : Type 0} (g : SlotInfo → B) where
   pub fits_refused : (a : Answer SlotInfo) (size room : ℕ) {why : Refusal}
       → refused why ≡ fitting a size room
       → refused why ≡ (a >>= λ f. unless NameTooLong (leb size room) (given (g f)))
-  unfolding fitting ◌>>=◌
+  unfolding fitting
   fits_refused (refused w) size room e = cc
   fits_refused (given f) size room {why} e = refused_too why (leb size room) f e
 
   pub fits_given : (a : Answer SlotInfo) (size room : ℕ) {f : SlotInfo}
       → given f ≡ fitting a size room
       → (leb size room ≡ true) × (given (g f) ≡ (a >>= λ f. unless NameTooLong (leb size room) (given (g f))))
-  unfolding fitting unless ◌>>=◌
+  unfolding fitting unless
   fits_given (refused w) size room {f} e = absurd (refused_given w f (sym e))
   fits_given (given y) size room {f} e =
       let (fits, same) = unless-given NameTooLong (leb size room) (given y) f (sym e) in

@@ -63,7 +63,7 @@ module _ (img : List ℕ) (v : View) (k : ℕ) where
 -- two tests asked before what follows them
 asked_first : {A : Type 0} (x : Answer A) (a b : Bool)
     → unless CopiesDiffer a (unless NoSuchSlot b x) ≡ ◌>>=◌ {A = Unit {0}} (unless CopiesDiffer a (unless NoSuchSlot b (given tt))) (λ _. x)
-unfolding unless ◌>>=◌
+unfolding unless
 asked_first x true true = refl
 asked_first x true false = refl
 asked_first x false b = refl
@@ -72,7 +72,7 @@ module _ (s : Setting) (img : List ℕ) (v : View) (h : view s img ≡ given v) 
   asked_by : {A : Type 0} (x : Answer A)
       → unless CopiesDiffer (agree_by s img v) (unless NoSuchSlot (slot_there (entries (block img v.table)) k) x)
       ≡ slot_asked img v k >>= λ _. x
-  unfolding slot_asked unless ◌>>=◌
+  unfolding slot_asked unless
   asked_by x =
       rw (pairs_agree_if_equal s img v h)
       (asked_first x (copies_equal img v) (slot_there (entries (block img v.table)) k))
@@ -80,7 +80,7 @@ module _ (s : Setting) (img : List ℕ) (v : View) (h : view s img ≡ given v) 
   module _ (o : Outcome) (asked : outcome o ≡ slot_asked img v k) where
     pub refused_by : {A : Type 0} (x : Answer A) (why : Refusal) → o ≡ Refused why
         → unless CopiesDiffer (agree_by s img v) (unless NoSuchSlot (slot_there (entries (block img v.table)) k) x) ≡ refused why
-    unfolding outcome ◌>>=◌
+    unfolding outcome
     refused_by x why q = asked_by x ∙ rw (← asked, q)
 
     pub enable-refused : (why : Refusal) → o ≡ Refused why → job s img v (enable k) ≡ refused why
@@ -98,7 +98,7 @@ module _ (s : Setting) (img : List ℕ) (v : View) (h : view s img ≡ given v) 
     module _ (q : o ≡ Started) where
       pub passed_by : {A : Type 0} (x : Answer A)
           → unless CopiesDiffer (agree_by s img v) (unless NoSuchSlot (slot_there (entries (block img v.table)) k) x) ≡ x
-      unfolding outcome ◌>>=◌
+      unfolding outcome
       passed_by x = asked_by x ∙ rw (← asked, q)
 
       pub slot_is_there : slot_there (entries (block img v.table)) k ≡ true

@@ -66,12 +66,12 @@ module _ (len granule : ℕ) (p : Plan) (j : Job) where
 
 module _ (s : Setting) (img : List ℕ) (v : View) (c : Command) (room : List ℕ) where
   pub drafts_refused : (why : Refusal) → job s img v c ≡ refused why → Drafts img room (Refused why) (job_by s img v c)
-  unfolding drafted Sound job_by ◌>>=◌
+  unfolding drafted Sound job_by
   drafts_refused why e = record { answer = rw e; sound = tt }
 
   pub drafts_job : (d : Draft) (ss : List Step)
       → job s img v c ≡ given ss
       → Drafts img room d (given (job_for s.granule img v c))
       → Drafts img room d (job_by s img v c)
-  unfolding job_by ◌>>=◌
+  unfolding job_by
   drafts_job d ss e m = rw e m

@@ -55,7 +55,7 @@ module _ (es : List Entry) (i : ℕ) where
 
 module _ (s : Setting) (img : List ℕ) (i : ℕ) where
   pub name_none : {why : Refusal} → entry_info s img i ≡ refused why → entry_name s img i ≡ []
-  unfolding entry_info entry_name table_part table_of ◌>>=◌
+  unfolding entry_info entry_name table_part table_of
   name_none e = by_view (view s img) refl
     where
       by_view : (a : Answer View) → view s img ≡ a → entry_name s img i ≡ []
@@ -63,7 +63,7 @@ module _ (s : Setting) (img : List ℕ) (i : ℕ) where
       by_view (given v) w = rw w (no_name_there (entries (block img v.table)) i (rw w at e))
 
   pub name_some : {f : SlotInfo} → entry_info s img i ≡ given f → 0 < length (entry_name s img i)
-  unfolding entry_info entry_name table_part table_of ◌>>=◌
+  unfolding entry_info entry_name table_part table_of
   name_some {f} e = by_view (view s img) refl
     where
       by_view : (a : Answer View) → view s img ≡ a → 0 < length (entry_name s img i)

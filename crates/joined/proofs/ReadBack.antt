@@ -31,7 +31,7 @@ seen_by : (x : ReadOut) (a : Answer (List ℕ)) (t : List ℕ)
     → listed x.answer ≡ count_of a
     → x.row_left ≡ row_after a x.row
     → seen x ≡ with_order t a
-unfolding seen count_of row_after ◌>>=◌
+unfolding seen count_of row_after
 seen_by x (refused why) t p l w = rw l
 seen_by x (given o) t p l w = rw (l, p, w, take_at o (drop (length o) x.row) (length o) refl)
 
@@ -40,7 +40,7 @@ module _ (s : Setting) (img : List ℕ) where
   reading_by : (room : ℕ)
       → (order_list s img room ≡ refused RowTooShort → ⊥)
       → with_order (table_part s img) (order_list s img room) ≡ reading s img
-  unfolding order_list order_in unless table_part table_of reading read_by ◌>>=◌
+  unfolding order_list order_in unless table_part table_of reading read_by
   reading_by room = by_view (view s img)
     where
       by_view : (a : Answer View)
@@ -61,21 +61,21 @@ module _ (s : Setting) (img : List ℕ) where
       → ReadFrom s img x
       → (listed x.answer ≡ refused RowTooShort → ⊥)
       → seen x ≡ reading s img
-  unfolding count_of ◌>>=◌
+  unfolding count_of
   seen_is_reading x from fits =
       seen_by x (order_list s img (length x.row)) (table_part s img) from.part from.answer from.written
       ∙ reading_by (length x.row) (λ e. fits (from.answer ∙ rw e))
 
   module _ (r : Reading) where
     pub order_there : (room : ℕ) → reading s img ≡ given r → length r.boot ≤ room → order_list s img room ≡ given r.boot
-    unfolding reading read_by order_list order_in unless ◌>>=◌
+    unfolding reading read_by order_list order_in unless
     order_there room e fits =
         let (v, ev, q) = bind_given (view s img) _ r e in
         let same : read_by img v ≡ r = given_inj (read_by img v) r q in
         rw (ev, ap (λ (x : Reading). x.boot) same, le-leb (length r.boot) room fits)
 
     pub readers_answer : reading s img ≡ given r → Answers s img r
-    unfolding Answers count_of ◌>>=◌
+    unfolding Answers count_of
     readers_answer e x from fits =
         let o = order_there (length x.row) e fits in
         seen_is_reading x from
@@ -83,7 +83,7 @@ module _ (s : Setting) (img : List ℕ) where
 
     -- nothing is lost: where the readers tell a reading, that is the reading of the flash
     pub answers_read : Answers s img r → reading s img ≡ given r
-    unfolding Answers listed seen ◌>>=◌
+    unfolding Answers listed seen
     answers_read told =
         let e = told x from (rw length-replicate (omega arith)) in
         sym (seen_is_reading x from (λ h. refused_given RowTooShort r (sym (short h) ∙ e))) ∙ e

@@ -84,7 +84,7 @@ module _ (bytes img : List ℕ) (r : RunForC) where
   one_run : Held bytes
       → RanAs r.number r.budget (lent bytes img r.count) r.left (running bytes img)
       → Went
-  unfolding running RanAs ◌>>=◌ admitted
+  unfolding running RanAs admitted
   one_run holds went =
       by_answer (admitted j img) refl (run_not_zero j.plan.granule j.plan.len (under_way j img))
       (run_plain j.plan.granule j.plan.len (under_way j img)) (rw holds at went)

@@ -14,7 +14,7 @@ use Rattle.joined_for_c.specs.Claim.{AnswersForC}
 
 module _ (s : Setting) (img : List ℕ) (r : Reading) where
   pub readers_for_c_answer : reading s img ≡ given r → AnswersForC s img r
-  unfolding reading read_by slot_count slot_info slot_name table_part table_of ◌>>=◌
+  unfolding reading read_by slot_count slot_info slot_name table_part table_of
   readers_for_c_answer e =
       let (v, ev, q) = bind_given (view s img) _ r e in
       let table = ap (λ (x : Reading). x.table) (given_inj (read_by img v) r q) in

@@ -54,7 +54,7 @@ module _ (s : Setting) (img : List ℕ) where
         ltb-true 0 _ (and_true _ _ right).0
 
     pub name_empty : eqb (length (slot_name s img k)) 0 ≡ is_refused (slot_info s img k)
-    unfolding slot_name slot_info table_part table_of name_in is_refused unless ◌>>=◌
+    unfolding slot_name slot_info table_part table_of name_in is_refused unless
     name_empty = by (view s img) refl
       where
         by : (a : Answer View) → view s img ≡ a → eqb (length (slot_name s img k)) 0 ≡ is_refused (slot_info s img k)

@@ -15,7 +15,7 @@ module _ {a : Answer NamedEntry} (row : List ℕ) where
   pub entry_kept : {why : Refusal} (count start size flags : ℕ)
       → refused why ≡ a
       → EntryTold a number_of why row row count count start start size size flags flags
-  unfolding name_of row_after ◌>>=◌
+  unfolding name_of row_after
   entry_kept count start size flags e = record {
     returned = number-refused e;
     name_left = rw (← e);
@@ -26,5 +26,5 @@ module _ {a : Answer NamedEntry} (row : List ℕ) where
   }
 
   pub name_put : {x : NamedEntry} → given x ≡ a → row_after (given x.name) row ≡ row_after (name_of a) row
-  unfolding name_of row_after ◌>>=◌
+  unfolding name_of row_after
   name_put e = rw (← e)

@@ -76,6 +76,6 @@ module _ {A : Type 0} where
   unless why false a = refused why
 
 -- the first refusal stands; what is given is asked further
-unfoldable pub ◌>>=◌ : {A B : Type 0} → Answer A → (A → Answer B) → Answer B
+abbrev pub ◌>>=◌ : {A B : Type 0} → Answer A → (A → Answer B) → Answer B
 refused why >>= f = refused why
 given a >>= f = f a

@@ -13,7 +13,7 @@ use Rattle.runs_for_c.specs.Counted.{counts, Counted}
 
 module _ (n : ℕ) (bs bs' : List ℕ) (told : ℕ) (r : Answer ℕ) where
   pub count_told : CountedOver n bs bs' r (decoded bs) → Counted n (number r) bs bs' told (kept (λ k. k) r told)
-  unfolding counts CountedOver bytes_after number kept ◌>>=◌
+  unfolding counts CountedOver bytes_after number kept
   count_told h = from (decoded bs) refl h
     where
       from : (a : Answer Job) → decoded bs ≡ a → CountedOver n bs bs' r a

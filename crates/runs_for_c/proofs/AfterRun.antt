@@ -19,7 +19,7 @@ module _ (budget : ℕ) (bs img bs' img' : List ℕ) (done : ℕ) (r : Answer �
 
   of_job : (a : Answer Progress) → admitted (job_from bs) img ≡ a → RanHere budget bs img bs' img' r
       → Told (a >>= λ p. given (record { job = job_from bs; progress = p }))
-  unfolding RanAs ran progress_after under_way bytes_after number kept ◌>>=◌
+  unfolding RanAs ran progress_after under_way bytes_after number kept
   of_job (refused why) e h =
       let did : r ≡ refused why = h.did ∙ rw (did_by_run, e) in
       let same_img : img' ≡ img = h.image ∙ rw (image_after_run, e) in
@@ -31,7 +31,7 @@ module _ (budget : ℕ) (bs img bs' img' : List ℕ) (done : ℕ) (r : Answer �
       rw did (refl, (h.holds ∙ rw e, (h.image ∙ rw (image_after_run, e), (refl, bytes))))
 
   pub run_told : RanOver budget bs img bs' img' r (decoded bs) → Told (running bs img)
-  unfolding running RanOver RanAs number kept ◌>>=◌
+  unfolding running RanOver RanAs number kept
   run_told h = from (decoded bs) refl h
     where
       from : (a : Answer Job) → decoded bs ≡ a → RanOver budget bs img bs' img' r a

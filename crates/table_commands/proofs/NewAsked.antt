@@ -82,7 +82,7 @@ module _ (img : List ℕ) (v : View) (n : List ℕ) (size : ℕ) where
 five_first : {A : Type 0} (x : Answer A) (a b c d e : Bool)
     → unless CopiesDiffer a (unless NameNotAllowed b (unless NameTaken c (unless LengthWrong d (unless NoRowLeft e x))))
     ≡ ◌>>=◌ {A = Unit {0}} (unless CopiesDiffer a (unless NameNotAllowed b (unless NameTaken c (unless LengthWrong d (unless NoRowLeft e (given tt)))))) (λ _. x)
-unfolding unless ◌>>=◌
+unfolding unless
 five_first x true true true true true = refl
 five_first x true true true true false = refl
 five_first x true true true false e = refl
@@ -105,7 +105,7 @@ module _ (s : Setting) (img : List ℕ) (v : View) (h : view s img ≡ given v) 
       (size_right size) (ltb (entry_count (block img v.table)) 127))
 
   pub create-refused : (why : Refusal) → o ≡ Refused why → job s img v (create n size) ≡ refused why
-  unfolding outcome ◌>>=◌
+  unfolding outcome
   create-refused why q = create_asked ∙ rw (← asked, q)
 
   module _ (q : o ≡ Started) where
@@ -152,7 +152,6 @@ module _ (s : Setting) (img : List ℕ) (v : View) (h : view s img ≡ given v) 
       rest_asked : job s img v (create n size)
           ≡ unless NoStart (ltb start (length img))
           (given (create_steps v.spt0 v.spt1 (block img v.table) n (created_start img v size) size))
-      unfolding ◌>>=◌
       rest_asked = create_asked ∙ rw (passed, found_start)
 
       pub create-refused_42 : length img ≤ start → job s img v (create n size) ≡ refused NoStart

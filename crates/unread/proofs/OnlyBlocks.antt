@@ -33,7 +33,6 @@ use Rattle.rules.specs.declared.Refusal.TheVariants.{BadLength, BadGranule, BadA
 bind_same : {A B : Type 0} (a : Answer A) (f g : A → Answer B)
     → ((x : A) → a ≡ given x → f x ≡ g x)
     → a >>= f ≡ a >>= g
-unfolding ◌>>=◌
 bind_same (refused n) f g h = refl
 bind_same (given x) f g h = h x refl
 

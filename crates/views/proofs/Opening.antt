@@ -1,6 +1,6 @@
 -- How code goes on from what `view` answered: a refusal is passed on, and by a view every block is inside the image and
 -- the two that are read can be walked. Assumes nothing.
-use mathlib.Core.Path.{◌≡◌, sym, ap, ◌∙◌}
+use mathlib.Core.Path.{◌≡◌}
 use mathlib.Core.List.{List, []}
 use Prim.Native.Nat.{ℕ, ◌<◌}
 use native.Mathlib.Omega.{arith}
@@ -17,10 +17,7 @@ use Rattle.rules.proofs.Claim.Invariant.{granule_holds_block}
 use Rattle.rules.proofs.Table.SlotStarts.{length_fits}
 use Rattle.walks.specs.Entries.{HasEntries}
 use Rattle.places.specs.Inner.StandingPointers.{StandingPointers}
-use Rattle.views.specs.Answers.{viewed}
 use Rattle.views.specs.Inner.Located.{Located}
-use Rattle.views.specs.declared.Viewed.{Viewed}
-use Rattle.views.specs.declared.Viewed.TheVariants.{At, Refused}
 use Rattle.views.proofs.Seen.{seen, blocks_inside, table_followed, pointers_inside, pointers_read_stand}
 
 pub located : (s : Setting) (img : List ℕ) (v : View) → view s img ≡ given v → Located img v
@@ -55,24 +52,13 @@ module _ {img : List ℕ} {v : View} (l : Located img v) where
   pub has_pointers : (p : List ℕ) → (p ≡ block img v.pointers) × (length p ≡ block_size) → StandingPointers p
   has_pointers p (is_block, whole) = record { whole = whole; stands = rw is_block l.stand }
 
--- ---- what `view` answered
+-- ---- the part that is the table read
 
-module _ (s : Setting) (img : List ℕ) {r : Viewed} (e : viewed r ≡ view s img) where
-  pub was_viewed : {v : View} → r ≡ At v → view s img ≡ given v
-  unfolding viewed
-  was_viewed q = sym e ∙ ap viewed q
-
-  pub was_refused : {why : Refusal} → r ≡ Refused why → view s img ≡ refused why
-  unfolding viewed
-  was_refused q = sym e ∙ ap viewed q
-
-  pub opened : {v : View} → r ≡ At v → Located img v
-  opened {v} q = located s img v (was_viewed q)
-
-  pub table_of_view : {v : View} → r ≡ At v → table_part s img ≡ block img v.table
+module _ (s : Setting) (img : List ℕ) where
+  pub table_of_view : {v : View} → view s img ≡ given v → table_part s img ≡ block img v.table
   unfolding table_part table_of
-  table_of_view q = rw (was_viewed q)
+  table_of_view e = rw e
 
-  pub no_table : {why : Refusal} → r ≡ Refused why → table_part s img ≡ []
+  pub no_table : {why : Refusal} → view s img ≡ refused why → table_part s img ≡ []
   unfolding table_part table_of
-  no_table q = rw (was_refused q)
+  no_table e = rw e

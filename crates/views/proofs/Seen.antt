@@ -21,7 +21,8 @@ use Rattle.rules.proofs.Lists.Tests.{and_true, unless-given, bind_given, given_i
 use Rattle.rules.proofs.Copies.CopyRead.{which_address, WhichAddress}
 use Rattle.rules.proofs.Table.Standing.{FourBlocks, standing, at_most_127, four_blocks}
 use Rattle.rules.proofs.Claim.Invariant.{granule_holds_block}
-use Rattle.bounds.specs.Inner.Due.{NoneDue}
+use Rattle.bounds.specs.Inner.Due.{due}
+use Rattle.bounds.proofs.FirstDue.{none_due}
 use Rattle.views.specs.Inner.Followed.{BothInside, Followed}
 use Rattle.rules.specs.declared.Refusal.TheVariants.{BadLength, BadGranule, BadAddresses, NoPointers}
 
@@ -95,8 +96,9 @@ module _ (s : Setting) (len : ℕ) (placed : addresses_right s len ≡ true) whe
       (address_inside s.spt0 right0, address_inside s.spt1 right1)
 
 -- if none of refusals 1 to 3 is due, both table copies are inside the image
-pub both_inside : (s : Setting) (img : List ℕ) → NoneDue s (length img) → BothInside s img
-both_inside s img k =
+pub none_due_inside : (s : Setting) (img : List ℕ) → due s (length img) ≡ given tt → BothInside s img
+none_due_inside s img e =
+    let k = none_due s (length img) e in
     let holds = granule_holds_block s.granule k.grained in
     let (inside0, inside1) = told_inside s (length img) k.placed in
     record { spt0_inside = omega arith; spt1_inside = omega arith; some_granule = omega arith }
@@ -114,6 +116,20 @@ followed s img at holds inside h =
       cpb0_inside = omega (arith, blocks.cpb0_inside);
       cpb1_inside = omega (arith, blocks.cpb1_inside);
     }
+
+-- the table that is read can be followed
+pub read_followed : (s : Setting) (img : List ℕ) (at : ℕ) → due s (length img) ≡ given tt → table_read s img ≡ given at
+    → Followed img at
+unfolding table_read
+read_followed s img at e h =
+    let k = none_due s (length img) e in
+    let holds = granule_holds_block s.granule k.grained in
+    let inside = none_due_inside s img e in
+    let why = no_table s img in
+    let stands = table_stands s (length img) in
+    followed s img at holds
+    (of_either why stands img s.spt0 s.spt1 at h (λ (a : ℕ). a + block_size ≤ length img) inside.spt0_inside inside.spt1_inside)
+    (copy_stands why stands img s.spt0 s.spt1 at h)
 
 -- ---- the copies read
 

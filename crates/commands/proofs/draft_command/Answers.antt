@@ -9,10 +9,9 @@ pub draft_by-requires : goal.draft_by-requires
 draft_by-requires c = (was_viewed _ _ c.view-seen.ensures c.in-At.is, c.requires)
 
 pub returns-in-Refused : goal.returns-in-Refused
-unfolding drafted Sound ◌>>=◌
+unfolding drafted Sound
 returns-in-Refused c = rw (was_refused _ _ c.view-seen.ensures c.in-Refused.is) (record { answer = refl; sound = tt })
 
 pub returns-in-At : goal.returns-in-At
-unfolding ◌>>=◌
 returns-in-At c =
     rw (was_viewed _ _ c.view-seen.ensures c.in-At.is) c.draft_by.ensures

@@ -5,12 +5,12 @@ use Rattle.conditions.specs.Condition.{condition_by, condition, inspected}
 use Rattle.conditions.proofs.condition_of.Goals as goal
 
 pub returns-in-Refused : goal.returns-in-Refused
-unfolding inspected condition ◌>>=◌
+unfolding inspected condition
 returns-in-Refused c =
     rw (was_refused _ _ c.view-seen.ensures c.in-Refused.is)
 
 pub returns-in-At : goal.returns-in-At
-unfolding inspected condition ◌>>=◌
+unfolding inspected condition
 returns-in-At c =
     rw (c.condition_by.ensures, was_viewed _ _ c.view-seen.ensures c.in-At.is)
 

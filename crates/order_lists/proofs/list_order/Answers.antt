@@ -14,7 +14,7 @@ use mathlib.Core.Bool.{not}
 use Rattle.order_lists.proofs.list_order.Goals as goal
 
 pub returns-then-not-has_room : goal.returns-then-not-has_room
-unfolding order_in unless listed count_of row_after ◌>>=◌
+unfolding order_in unless listed count_of row_after
 returns-then-not-has_room c =
     let short = failed c.has_room.ensures (ap not c.if-not-has_room.true) in
     record { answer = rw short; written = rw short }
@@ -31,7 +31,7 @@ write_order-len-requires c =
     (has, leb-true (length (order_by a.t.now a.p.now)) (length a.row.now) room)
 
 pub returns : goal.returns
-unfolding order_in unless listed count_of row_after ◌>>=◌
+unfolding order_in unless listed count_of row_after
 returns c =
     let room = passed c.has_room.ensures (ap not c.if-not-has_room.false) in
     record { answer = rw (room, c.write_order-len.ensures.count); written = rw room c.write_order-len.ensures.written }

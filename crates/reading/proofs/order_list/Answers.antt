@@ -18,13 +18,13 @@ list_order-requires c =
     (has_entries at _ _ c.block_at-t.ensures refl, has_pointers at _ c.block_at-p.ensures)
 
 pub returns-in-Refused : goal.returns-in-Refused
-unfolding listed count_of order_list row_after ◌>>=◌
+unfolding listed count_of order_list row_after
 returns-in-Refused c =
     let e = was_refused _ _ c.view-seen.ensures c.in-Refused.is in
     record { answer = rw e; written = rw e }
 
 pub returns-in-At : goal.returns-in-At
-unfolding order_list boot_order ◌>>=◌
+unfolding order_list boot_order
 returns-in-At c =
     let e = was_viewed _ _ c.view-seen.ensures c.in-At.is in
     let p = c.block_at-p.ensures.0 in

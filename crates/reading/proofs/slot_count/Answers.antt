@@ -12,12 +12,12 @@ count_slots-met-requires c =
     c.entry_count-n.ensures
 
 pub returns-in-Refused : goal.returns-in-Refused
-unfolding counted slot_count ◌>>=◌
+unfolding counted slot_count
 returns-in-Refused c =
     rw (was_refused _ _ c.view-seen.ensures c.in-Refused.is)
 
 pub returns-in-At : goal.returns-in-At
-unfolding counted slot_count entries ◌>>=◌
+unfolding counted slot_count entries
 returns-in-At c =
     rw (
       was_viewed _ _ c.view-seen.ensures c.in-At.is,

@@ -13,12 +13,12 @@ info_in-requires c =
     c.entry_count.ensures
 
 pub returns-in-Refused : goal.returns-in-Refused
-unfolding known slot_info ◌>>=◌
+unfolding known slot_info
 returns-in-Refused c =
     rw (was_refused _ _ c.view-seen.ensures c.in-Refused.is)
 
 pub returns-in-At : goal.returns-in-At
-unfolding slot_info entries ◌>>=◌
+unfolding slot_info entries
 returns-in-At c =
     c.info_in.ensures
     ∙ rw (

@@ -104,7 +104,7 @@ module _ (s : Setting) where
         → reading s img ≡ given r
         → (choices : List Bool)
         × (slot_started s (flash_after_all img is) ≡ given (first_slot (book_after_all img r is choices).boot))
-    unfolding Demand3 ◌>>=◌
+    unfolding Demand3
     boots_as_booked r e =
         let (r', e', (choices, f)) = demand_3 s img bytes agree is names in
         let same : r' ≡ r = given_inj r' r (sym e' ∙ e) in

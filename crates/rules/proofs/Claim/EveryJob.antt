@@ -54,7 +54,7 @@ module _ (beginning : Beginning) (img : List ℕ) (r : Reading) (h : Invariant b
       right repair _ listed = subst (JobRight beginning img r repair) listed (repair_right beginning img r h)
 
   pub started : (c : Command) → start s img c ≡ job s img v c
-  unfolding start ◌>>=◌
+  unfolding start
   started c = rw (view_is beginning img r h)
 
 pub the_commands_right : AllRight the_commands

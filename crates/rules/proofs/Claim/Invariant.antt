@@ -162,7 +162,7 @@ module _ (beginning : Beginning) where
     }
 
     pub view_is : view s img ≡ given the_view
-    unfolding view table_read view_through pointers_read unless ◌>>=◌
+    unfolding view table_read view_through pointers_read unless
     view_is =
         rw (
           h.kept.same_length,
@@ -177,7 +177,7 @@ module _ (beginning : Beginning) where
         )
 
     pub reading_is : reading s img ≡ given r
-    unfolding reading read_by boot_order ◌>>=◌
+    unfolding reading read_by boot_order
     reading_is = rw (view_is, table_address.2, pointers_address.2, h.boots)
 
     -- ---- what the table read says

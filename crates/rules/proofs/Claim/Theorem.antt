@@ -31,7 +31,7 @@ use Rattle.rules.proofs.Claim.EveryList.{from_any_reading}
 pub agreeing_has_reading : (s : Setting) (img : List ℕ)
     → pairs_agree s img ≡ true
     → (r : Reading) × (reading s img ≡ given r)
-unfolding pairs_agree agreed reading ◌>>=◌
+unfolding pairs_agree agreed reading
 agreeing_has_reading s img = by_view (view s img)
   where
     by_view : (a : Answer View) → agreed s img a ≡ true → (r : Reading) × ((a >>= λ v. given (read_by img v)) ≡ given r)

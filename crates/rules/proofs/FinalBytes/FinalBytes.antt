@@ -84,7 +84,7 @@ pub finished_item_bytes : (s : Setting) (img : List ℕ) (v : View) (i : Item th
     → view s img ≡ given v
     → outcome s img i ≡ finished
     → flash_after s img i ≡ final s img v i.command
-unfolding flash_after outcome start ◌>>=◌
+unfolding flash_after outcome start
 finished_item_bytes s img v i bytes names views ended =
     rw views (answered (job s img v i.command) refl (rw views at ended))
   where

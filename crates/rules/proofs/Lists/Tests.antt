@@ -72,6 +72,5 @@ unless-given why false a x h = absurd (refused_given why x h)
 pub bind_given : {A B : Type 0} (a : Answer A) (f : A → Answer B) (x : B)
     → a >>= f ≡ given x
     → (y : A) × (a ≡ given y) × (f y ≡ given x)
-unfolding ◌>>=◌
 bind_given (refused why) f x h = absurd (refused_given why x h)
 bind_given (given y) f x h = (y, refl, h)

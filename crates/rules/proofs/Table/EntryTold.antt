@@ -226,7 +226,7 @@ module _ (s : Setting) (img : List ℕ) where
       → pointers_read img (block img at) ≡ p
       → view_through s img at ≡ refused why
       → BothTold why
-  unfolding view_through ◌>>=◌
+  unfolding view_through
   through_told at why (refused w) e h = pointers_told (block img at) why (e ∙ ap refused (refused_inj w why (rw e at h)))
   through_told at why (given x) e h = absurd (refused_given why _ (sym (rw e at h)))
 
@@ -234,7 +234,6 @@ module _ (s : Setting) (img : List ℕ) where
       → table_read s img ≡ t
       → table_read s img >>= view_through s img ≡ refused why
       → BothTold why
-  unfolding ◌>>=◌
   by_table (refused w) why e h = rule_told why (e ∙ ap refused (refused_inj w why (rw e at h)))
   by_table (given at) why e h = through_told at why (pointers_read img (block img at)) refl (rw e at h)
 

@@ -11,12 +11,12 @@ info_in-requires c =
     has_entries (opened _ _ c.view-seen.ensures c.in-At.is) _ _ c.block_at.ensures refl
 
 pub returns-in-Refused : goal.returns-in-Refused
-unfolding known entry_info ◌>>=◌
+unfolding known entry_info
 returns-in-Refused c =
     rw (was_refused _ _ c.view-seen.ensures c.in-Refused.is)
 
 pub returns-in-At : goal.returns-in-At
-unfolding entry_info ◌>>=◌
+unfolding entry_info
 returns-in-At c =
     c.info_in.ensures
     ∙ rw (c.block_at.ensures.0, was_viewed _ _ c.view-seen.ensures c.in-At.is)

@@ -17,12 +17,12 @@ held_in-requires c = (
 )
 
 pub returns-in-Refused : goal.returns-in-Refused
-unfolding holding place_at ◌>>=◌
+unfolding holding place_at
 returns-in-Refused c =
     rw (was_refused _ _ c.view-seen.ensures c.in-Refused.is)
 
 pub returns-in-At : goal.returns-in-At
-unfolding place_at ◌>>=◌
+unfolding place_at
 returns-in-At c =
     c.held_in.ensures
     ∙ rw (c.block_at-t.ensures.0, c.block_at-p.ensures.0, was_viewed _ _ c.view-seen.ensures c.in-At.is)

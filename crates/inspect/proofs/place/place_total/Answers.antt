@@ -11,12 +11,12 @@ places_of-places-requires c =
     has_pointers (opened _ _ c.view-seen.ensures c.in-At.is) _ c.block_at.ensures
 
 pub returns-in-Refused : goal.returns-in-Refused
-unfolding totalled place_total ◌>>=◌
+unfolding totalled place_total
 returns-in-Refused c =
     rw (was_refused _ _ c.view-seen.ensures c.in-Refused.is)
 
 pub returns-in-At : goal.returns-in-At
-unfolding totalled place_total places_of ◌>>=◌
+unfolding totalled place_total places_of
 returns-in-At c =
     rw (c.places_of-places.ensures, c.block_at.ensures.0, was_viewed _ _ c.view-seen.ensures c.in-At.is)
 
