@@ -9,6 +9,7 @@ ghost use Rattle.rules.specs.Copies.{copy_read, both_faults, no_table, table_rea
 ghost use Rattle.rules.specs.declared.Refusal.TheVariants.{NoPointers as no_pointers};
 ghost use Rattle.views.specs.Inner.Followed.{BothInside, Followed};
 
+use entries::Entries;
 use rules::{Refusal, Setting, TableFaults, View};
 
 // SPT0 if it stands, else SPT1.
@@ -74,10 +75,10 @@ fn pointer_blocks(t: &[u8]) -> (usize, usize)
     ensures first { result.0 ≡ cpb0_of t.now }
     ensures second { result.1 ≡ cpb1_of t.now }
 {
-    let n = entries::entry_count(t);
+    let entries = Entries::counted(t);
     (
-        entries::named_start(t, n, &names::CPB0) as usize,
-        entries::named_start(t, n, &names::CPB1) as usize,
+        entries.named_start(&names::CPB0) as usize,
+        entries.named_start(&names::CPB1) as usize,
     )
 }
 
