@@ -1,2 +1,2 @@
-mod SlotInfo
-mod Numbered
+mod Names
+mod Slots

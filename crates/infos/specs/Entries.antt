@@ -21,8 +21,11 @@ info_of es i = record {
   flags = (entry_of es i).flags;
 }
 
+unfoldable pub name_of : List Entry → ℕ → List ℕ
+name_of es i = name (entry_of es i)
+
 unfoldable pub info_in : List Entry → ℕ → Answer SlotInfo
 info_in es i = unless NoSuchEntry (entry_there es i) (given (info_of es i))
 
 unfoldable pub name_in : List Entry → ℕ → List ℕ
-name_in es i = cond (entry_there es i) (name (entry_of es i)) []
+name_in es i = cond (entry_there es i) (name_of es i) []

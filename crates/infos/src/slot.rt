@@ -1,51 +1,32 @@
-// One slot by a table, of which the first n entries count, and refusal 7.
+// One slot, and refusal 7.
 ghost use Rattle.std.specs.Prelude.{◌≡◌};
 ghost use Rattle.rules.specs.Answers.{given, unless};
-ghost use Rattle.rules.specs.Table.{rows};
 ghost use Rattle.rules.specs.Readers.{slot_there, info, name_in};
-ghost use Rattle.walks.specs.Entries.{HasEntries};
-ghost use Rattle.infos.specs.Answers.{known};
+ghost use Rattle.rules.specs.declared.Refusal.TheVariants.{NoSuchSlot as no_such_slot};
 
-use super::Known;
-use rules::refusals::NO_SUCH_SLOT;
-use rules::{SlotInfo, SlotNo};
+use super::entry;
+use entries::Entries;
+use rules::{Refusal, SlotInfo, SlotNo};
 
 // The entry number, start, length and flags of a slot.
-pub fn info_in(t: &[u8], n: usize, slot: SlotNo) -> Known
-    requires { HasEntries t.now n }
-    ensures { known result
-        ≡ unless 7 (slot_there (rows n t.now) slot.0) (given (info (rows n t.now) slot.0)) }
+#[tactic(auto, unfolding(rules::specs::Answers::unless), using(crate::proofs::Slots::there, crate::proofs::Slots::not_there, crate::proofs::Slots::info_by_row))]
+pub fn info_in(entries: &Entries<'_>, slot: SlotNo) -> Result<SlotInfo, Refusal>
+    ensures { result
+        ≡ unless no_such_slot (slot_there entries.now slot.0) (given (info entries.now slot.0)) }
 {
-    if !slot_there(t, n, slot) {
-        return Known::Refused(NO_SUCH_SLOT);
+    match slots::slot_row(entries, slot) {
+        Some(e) => Ok(entry::info_of(entries, e)),
+        None => Err(Refusal::NoSuchSlot),
     }
-    let e = slots::slot_row(t, n, slot);
-    Known::Is(SlotInfo {
-        entry: e,
-        start: entries::entry_start(t, e),
-        size: entries::entry_size(t, e),
-        flags: entries::entry_flags(t, e),
-    })
 }
 
-// The name of a slot up to its zero; an empty part of the table where there is no such slot.
-pub fn name_in(t: &[u8], n: usize, slot: SlotNo) -> &[u8]
-    requires { HasEntries t.now n }
-    ensures { result.now ≡ name_in (rows n t.now) slot.0 }
+// The name of a slot up to its zero; empty where there is no such slot.
+#[tactic(auto, unfolding(rules::specs::Readers::name_in), using(crate::proofs::Slots::there, crate::proofs::Slots::not_there, crate::proofs::Slots::name_by_row))]
+pub fn name_in<'a>(entries: &Entries<'a>, slot: SlotNo) -> &'a [u8]
+    ensures { result.now ≡ name_in entries.now slot.0 }
 {
-    if !slot_there(t, n, slot) {
-        return &t[..0];
+    match slots::slot_row(entries, slot) {
+        Some(e) => entry::name_of(entries, e),
+        None => &[],
     }
-    let field = entries::entry_name(t, slots::slot_row(t, n, slot));
-    let end = names::name_length(field);
-    &field[..end]
-}
-
-// The slot number is below the number of slots.
-fn slot_there(t: &[u8], n: usize, slot: SlotNo) -> bool
-    requires { HasEntries t.now n }
-    ensures { result ≡ slot_there (rows n t.now) slot.0 }
-{
-    let number = slot.0 as usize;
-    number < slots::count_slots(t, n)
 }
