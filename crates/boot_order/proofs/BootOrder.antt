@@ -186,6 +186,10 @@ order_within starts vs = once_length (length starts) (order starts vs) (once_ord
 pub order_fits : (es : List Entry) (vs : List ℕ) → length (order (slot_starts es) vs) ≤ length (slots es)
 order_fits es vs = omega (arith, order_within (slot_starts es) vs, length_starts es)
 
+pub order_by_fits : (t p : List ℕ) → length (order_by t p) ≤ length (slots (entries t))
+unfolding order_by starts
+order_by_fits t p = order_fits (entries t) (places p)
+
 -- an order that is full stays
 then_full : (o : List ℕ) (a : Option SlotNo) (most : ℕ) → length (then o a) ≤ most → most ≤ length o → then o a ≡ o
 unfolding then

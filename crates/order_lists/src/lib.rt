@@ -6,48 +6,36 @@ ghost use Rattle.rules.specs.Table.{entry_count};
 ghost use Rattle.rules.specs.Copies.{order_by};
 ghost use Rattle.rules.specs.Readers.{order_in, row_after};
 ghost use Rattle.walks.specs.Entries.{HasEntries};
-ghost use Rattle.slots.specs.Inner.RowsOf.{HasRows};
 ghost use Rattle.places.specs.Inner.StandingPointers.{StandingPointers};
-ghost use Rattle.places.specs.Inner.PlacesOf.{HasPlaces};
-ghost use Rattle.order_lists.specs.Answers.{listed, count_of};
+ghost use Rattle.order_lists.specs.Answers.{count_of};
 
-use places::Places;
+use places::PointerBlock;
 use rules::Refusal;
-use rules::refusals::ROW_TOO_SHORT;
-use slots::Rows;
+use slots::Table;
 
-// How many slot numbers the order list wrote, or a refusal.
-#[derive(Clone, Copy)]
-pub enum Listed {
-    Count(usize),
-    Refused(Refusal),
-}
-
-// The order listed into the row, or refused 13. Whether it fits is known before anything is stored.
-pub fn list_order(t: &[u8], p: &[u8], row: &mut [u32]) -> Listed
+// The order listed into the row, and how many slot numbers it has, or refused 13. Whether it fits is known before anything
+// is stored.
+#[tactic(auto, using(crate::proofs::Counted::count_given, crate::proofs::Counted::count_refused), unfolding(rules::specs::Readers::order_in, rules::specs::Readers::row_after, rules::specs::Answers::unless))]
+pub fn list_order(t: &[u8], p: &[u8], row: &mut [u32]) -> Result<usize, Refusal>
     requires { HasEntries t.now (entry_count t.now) × StandingPointers p.now }
-    ensures answer { listed result
+    ensures answer { result
         ≡ count_of (order_in (order_by t.now p.now) (length row.old)) }
     ensures written { row.new ≡ row_after
         (order_in (order_by t.now p.now) (length row.old)) row.old }
 {
-    let rows = slots::rows_of(t);
-    let places = place_walks::places_of(p);
-    if !has_room(t, rows, p, places, row.len()) {
-        return Listed::Refused(ROW_TOO_SHORT);
+    let table = Table::new(t);
+    let block = place_walks::pointer_block(p);
+    if !has_room(&table, &block, row.len()) {
+        return Err(Refusal::RowTooShort);
     }
-    let len = boot_order::write_order(t, rows, p, places, row);
-    Listed::Count(len)
+    Ok(boot_order::write_order(&table, &block, row))
 }
 
 // There is room for the order. It has at most all slots, so that its length is worked out only where there is no room
 // for them all.
-fn has_room(t: &[u8], rows: Rows, p: &[u8], places: Places, room: usize) -> bool
-    requires { HasRows t.now rows × HasPlaces p.now places }
+#[tactic(auto, using(boot_order::proofs::BootOrder::order_by_fits))]
+fn has_room(t: &Table<'_>, p: &PointerBlock<'_>, room: usize) -> bool
     ensures { result ≡ leb (length (order_by t.now p.now)) room }
 {
-    if slots::slot_total(t, rows) <= room {
-        return true;
-    }
-    boot_order::order_length(t, rows, p, places) <= room
+    t.slot_total() <= room || boot_order::order_length(t, p) <= room
 }

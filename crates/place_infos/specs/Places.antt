@@ -1,11 +1,9 @@
 -- The places of a pointer block, by their numbers. Assumes nothing.
 use Rattle.std.specs.Prelude.{List, ℕ, ltb, get_or}
-use Rattle.rules.specs.Answers.{Answer, refused, given, unless}
+use Rattle.rules.specs.Answers.{Answer, given, unless}
 use Rattle.rules.specs.Table.{starts}
 use Rattle.rules.specs.Pointers.{place_count, places, erased_value, judged}
 use Rattle.place_infos.specs.declared.Held.{Held}
-use Rattle.place_infos.specs.declared.Holding.{Holding}
-use Rattle.place_infos.specs.declared.Holding.TheVariants.{Is, Refused}
 use Rattle.rules.specs.declared.Refusal.TheVariants.{NoSuchPlace}
 
 -- the value of a place of a pointer block
@@ -19,8 +17,3 @@ held t p k = record { judgement = judged (starts t) (value_of p k); value = valu
 -- refusal 93: place number not below the number of places
 unfoldable pub held_in : List ℕ → List ℕ → ℕ → Answer Held
 held_in t p k = unless NoSuchPlace (ltb k (place_count p)) (given (held t p k))
-
--- what the code answers
-unfoldable pub holding : Holding → Answer Held
-holding (Is h) = given h
-holding (Refused why) = refused why
