@@ -1,8 +1,11 @@
 // Blocks by value, and the bytes of a number.
-ghost use Rattle.std.specs.Prelude.{◌≡◌, ◌%◌, length};
+ghost use Rattle.std.specs.Prelude.{◌≡◌, length};
 ghost use Rattle.rules.specs.Bytes.{bytes_of, block_size};
 ghost use Rattle.blocks.specs.Made.{erased_block};
 
+use fields::stores;
+
+#[tactic(auto, unfolding(crate::specs::Made::erased_block))]
 pub fn erased_block() -> [u8; rules::BLOCK_SIZE]
     ensures { result ≡ erased_block }
 {
@@ -15,7 +18,7 @@ pub fn copied(block: &[u8]) -> [u8; rules::BLOCK_SIZE]
     ensures { result ≡ block.now }
 {
     let mut b = erased_block();
-    fields::stores::copy_block(&mut b, 0, block);
+    stores::copy_block(&mut b, 0, block);
     b
 }
 
@@ -23,27 +26,5 @@ pub fn copied(block: &[u8]) -> [u8; rules::BLOCK_SIZE]
 pub fn bytes_of(v: u64) -> [u8; 8]
     ensures { result ≡ bytes_of 8 v }
 {
-    let b = v / 256;
-    let c = b / 256;
-    let d = c / 256;
-    let e = d / 256;
-    let f = e / 256;
-    let g = f / 256;
-    let h = g / 256;
-    [
-        byte(v),
-        byte(b),
-        byte(c),
-        byte(d),
-        byte(e),
-        byte(f),
-        byte(g),
-        byte(h),
-    ]
-}
-
-fn byte(v: u64) -> u8
-    ensures { result ≡ v % 256 }
-{
-    (v % 256) as u8
+    v.to_le_bytes()
 }

@@ -8,6 +8,7 @@ use job_parts::{Kind, Plan};
 use jobs::Job;
 
 // The job of no steps, for no image.
+#[tactic(auto, unfolding(crate::specs::Made::rewrites, crate::specs::Made::no_steps, crate::specs::Made::no_job))]
 pub fn no_job() -> Job
     ensures { result ≡ no_job }
 {
@@ -24,10 +25,7 @@ pub fn no_job() -> Job
 fn kind_of(wanted: bool) -> Kind
     ensures { result ≡ cond wanted Rewrite Nothing }
 {
-    if wanted {
-        return Kind::Rewrite;
-    }
-    Kind::Nothing
+    if wanted { Kind::Rewrite } else { Kind::Nothing }
 }
 
 // A block rewritten at an address, or not, then another.
@@ -42,13 +40,13 @@ pub fn rewrites_plan(
     ensures { result ≡ rewrites_plan len granule first at second after }
 {
     Plan {
-        len: len,
-        granule: granule,
+        len,
+        granule,
         offset: 0,
         first: kind_of(first),
-        at: at,
+        at,
         second: kind_of(second),
-        after: after,
+        after,
         count: 0,
     }
 }
@@ -59,8 +57,8 @@ pub fn target(len: usize, granule: usize, at0: usize, at1: usize) -> Target
     ensures { result ≡ target len granule at0 at1 }
 {
     Target {
-        len: len,
-        granule: granule,
+        len,
+        granule,
         at0: at0 as u32,
         at1: at1 as u32,
     }
@@ -87,11 +85,11 @@ pub fn places_plan(to: Target, offset: u32, count: usize) -> Plan
     Plan {
         len: to.len,
         granule: to.granule,
-        offset: offset,
+        offset,
         first: Kind::Places,
         at: to.at1,
         second: Kind::Places,
         after: to.at0,
-        count: count,
+        count,
     }
 }
