@@ -2,7 +2,7 @@
 // of a line, which end at another byte, is found in the same way.
 #![tactic(auto)]
 
-ghost use Rattle.std.specs.Prelude.{◌≡◌, ◌≤◌, eqb, length, get_or};
+ghost use Rattle.std.specs.Prelude.{◌≡◌, ◌≤◌, eqb, length, get_or, position};
 ghost use Rattle.rules.specs.Lists.{same, member};
 ghost use Rattle.rules.specs.Bytes.{up_to_zero};
 ghost use Rattle.rules.specs.Table.{is_fixed_name};
@@ -26,14 +26,13 @@ pub const CPB1: [u8; 4] = *b"CPB1";
 pub fn length_before(text: &[u8], stop: u8) -> usize
     ensures { (result ≡ length (before stop text.now)) × (result ≤ length text.now) }
 {
-    let mut i = 0;
-    while i < text.len() {
-        if text[i] == stop {
-            return i;
-        }
-        i += 1;
-    }
-    i
+    position_of(text, stop).unwrap_or(text.len())
+}
+
+fn position_of(text: &[u8], stop: u8) -> Option<usize>
+    ensures { result ≡ position (λ byte. eqb byte stop) text.now }
+{
+    text.iter().position(|byte| *byte == stop)
 }
 
 // How many bytes are before the first zero.
@@ -43,64 +42,62 @@ pub fn name_length(s: &[u8]) -> usize
     length_before(s, 0)
 }
 
+#[tactic(auto, using(crate::proofs::Names::name_front))]
+fn up_to_zero(s: &[u8]) -> &[u8]
+    ensures { result.now ≡ up_to_zero s.now }
+{
+    &s[..name_length(s)]
+}
+
 // The two names are equal up to their zero bytes.
+#[tactic(auto, using(crate::proofs::Names::same_pointwise))]
 pub fn same_name(a: &[u8], b: &[u8]) -> bool
     ensures { result ≡ same (up_to_zero a.now) (up_to_zero b.now) }
 {
-    let mut i = 0;
-    while i < a.len() {
-        let x = a[i];
-        let y = byte_or_zero(b, i);
-        if x != y {
-            return false;
-        }
-        if x == 0 {
-            return true;
-        }
-        i += 1;
-    }
-    let last = byte_or_zero(b, i);
-    last == 0
+    up_to_zero(a) == up_to_zero(b)
 }
 
 // The two names begin with the same byte, or are both empty. A search asks this first: most names differ here.
 pub fn begin_alike(a: &[u8], b: &[u8]) -> bool
     ensures { result ≡ eqb (get_or a.now 0 0) (get_or b.now 0 0) }
 {
-    byte_or_zero(a, 0) == byte_or_zero(b, 0)
+    first_or_zero(a) == first_or_zero(b)
 }
 
-// The byte at an index, or 0 past the end, where a name ends too.
-fn byte_or_zero(s: &[u8], i: usize) -> u8
-    ensures { result ≡ get_or s.now i 0 }
+// The first byte, or 0 where there is none: an empty name ends there too.
+fn first_or_zero(s: &[u8]) -> u8
+    ensures { result ≡ get_or s.now 0 0 }
 {
-    if i < s.len() { s[i] } else { 0 }
+    s.first().copied().unwrap_or(0)
 }
 
 // ---- the six
 
 // The name is one of the six. Most names differ in the first byte from all of them.
+#[tactic(auto, using(crate::proofs::Initials::begins_otherwise))]
 pub fn is_fixed_name(name: &[u8]) -> bool
     ensures { result ≡ is_fixed_name (up_to_zero name.now) }
 {
-    if !begins_fixed(name) {
-        return false;
-    }
-    same_name(name, &BOOT_INFO)
-        | same_name(name, &FACTORY_IMAGE)
-        | same_name(name, &SPT0)
-        | same_name(name, &SPT1)
-        | same_name(name, &CPB0)
-        | same_name(name, &CPB1)
+    begins_fixed(name) && has_fixed_name(name)
+}
+
+// By `|`: where tests are joined by `||`, the proof knows only the last of them.
+fn has_fixed_name(name: &[u8]) -> bool
+    ensures { result ≡ is_fixed_name (up_to_zero name.now) }
+{
+    let name = up_to_zero(name);
+    (name == BOOT_INFO.as_slice())
+        | (name == FACTORY_IMAGE.as_slice())
+        | (name == SPT0.as_slice())
+        | (name == SPT1.as_slice())
+        | (name == CPB0.as_slice())
+        | (name == CPB1.as_slice())
 }
 
 // The first byte is that of one of the six.
+#[tactic(auto, unfolding(rules::specs::Lists::member, crate::specs::Inner::Initials::initials))]
 fn begins_fixed(name: &[u8]) -> bool
     ensures { result ≡ member (get_or name.now 0 0) initials }
 {
-    if name.len() == 0 {
-        return false;
-    }
-    let first = name[0];
-    (first == b'B') | (first == b'F') | (first == b'S') | (first == b'C')
+    matches!(name.first(), Some(b'B' | b'F' | b'S' | b'C'))
 }
