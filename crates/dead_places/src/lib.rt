@@ -5,69 +5,55 @@ ghost use Rattle.std.specs.Prelude.{◌≡◌};
 ghost use Rattle.rules.specs.Lists.{any};
 ghost use Rattle.rules.specs.Table.{starts};
 ghost use Rattle.rules.specs.Pointers.{places as places_in, judged, is_dead};
-ghost use Rattle.slots.specs.Inner.RowsOf.{HasRows};
-ghost use Rattle.places.specs.Inner.PlacesOf.{HasPlaces};
 ghost use Rattle.text.specs.Put.{Put};
 ghost use Rattle.dead_places.specs.DeadLines.{numbered, judged_line, dead_part, place_line, kind_word};
 
-use places::Places;
+use places::PointerBlock;
 use rules::{Place, PlaceNo};
-use slots::Rows;
+use slots::Table;
 
 // Nothing where no place is dead.
-pub fn put_dead(t: &[u8], rows: Rows, p: &[u8], places: Places, out: &mut [u8], at: usize) -> usize
-    requires { HasRows t.now rows × HasPlaces p.now places }
+pub fn put_dead(t: &Table<'_>, p: &PointerBlock<'_>, out: &mut [u8], at: usize) -> usize
     ensures { Put out.old at (dead_part (starts t.now) (places_in p.now))
         out.new result }
 {
-    if !any_dead(t, rows, p, places) {
+    if !any_dead(t, p) {
         return at;
     }
     let end = text::put_bytes(out, at, b"\nplace kind value\n");
-    put_lines(t, rows, p, places, out, end)
+    put_lines(t, p, out, end)
 }
 
-fn any_dead(t: &[u8], rows: Rows, p: &[u8], places: Places) -> bool
-    requires { HasRows t.now rows × HasPlaces p.now places }
+#[tactic(auto, using(crate::proofs::DeadPlaces::dead_here, crate::proofs::DeadPlaces::dead_above, crate::proofs::DeadPlaces::none_dead))]
+fn any_dead(t: &Table<'_>, p: &PointerBlock<'_>) -> bool
     ensures { result ≡ any (λ v. is_dead (judged (starts t.now) v)) (places_in p.now) }
 {
-    let mut k = 0;
-    while k < places.count {
-        if is_dead(places::judge(t, rows, places::place_value(p, places, PlaceNo(k)))) {
+    for k in 0..p.count() {
+        if is_dead(places::judge(t, p.value(PlaceNo(k)))) {
             return true;
         }
-        k += 1;
     }
     false
 }
 
+#[tactic(auto, unfolding(rules::specs::Pointers::is_dead))]
 fn is_dead(place: Place) -> bool
     ensures { result ≡ is_dead place }
 {
-    match place {
-        Place::Erased => false,
-        Place::Spent => true,
-        Place::Live(_) => false,
-        Place::PartWritten => true,
-        Place::Stray(_) => true,
-    }
+    matches!(place, Place::Spent | Place::PartWritten | Place::Stray(_))
 }
 
 // ---- the lines
 
 // A line for each dead place, from place 0 up.
-fn put_lines(t: &[u8], rows: Rows, p: &[u8], places: Places, out: &mut [u8], at: usize) -> usize
-    requires { HasRows t.now rows × HasPlaces p.now places }
+fn put_lines(t: &Table<'_>, p: &PointerBlock<'_>, out: &mut [u8], at: usize) -> usize
     ensures { Put out.old at
         (numbered (judged_line (starts t.now)) 0 (places_in p.now)) out.new result }
 {
     let mut end = at;
-    let mut next = 0;
-    while next < places.count {
-        let k = next;
-        next += 1;
-        let v = places::place_value(p, places, PlaceNo(k));
-        end = put_line(PlaceNo(k), places::judge(t, rows, v), v, out, end);
+    for k in 0..p.count() {
+        let v = p.value(PlaceNo(k));
+        end = put_line(PlaceNo(k), places::judge(t, v), v, out, end);
     }
     end
 }
@@ -88,14 +74,14 @@ fn put_line(place: PlaceNo, judgement: Place, value: u64, out: &mut [u8], at: us
 }
 
 // The word of a dead place's kind.
+#[tactic(auto, using(text::proofs::Puts::put_nothing), unfolding(crate::specs::DeadLines::kind_word))]
 fn put_kind(judgement: Place, out: &mut [u8], at: usize) -> usize
     ensures { Put out.old at (kind_word judgement) out.new result }
 {
     match judgement {
-        Place::Erased => at,
         Place::Spent => text::put_bytes(out, at, b"spent"),
-        Place::Live(_) => at,
         Place::PartWritten => text::put_bytes(out, at, b"part-written"),
         Place::Stray(_) => text::put_bytes(out, at, b"stray"),
+        _ => at,
     }
 }
