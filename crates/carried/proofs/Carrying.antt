@@ -6,7 +6,7 @@ use Rattle.rules.specs.Bytes.{Bytes}
 use Rattle.rules.specs.declared.Setting.{Setting}
 use Rattle.rules.specs.Commands.{Command}
 use Rattle.rules.specs.Book.{NameBytes, AllProper}
-use Rattle.jobs.specs.declared.Ran.{Ran}
+use Rattle.jobs.specs.Jobs.{Ran}
 use Rattle.commands.specs.Begins.{start_result}
 use Rattle.commands.specs.declared.StartResult.{StartResult}
 use Rattle.commands.proofs.StartLists.{start_lists}

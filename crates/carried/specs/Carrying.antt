@@ -5,18 +5,18 @@ use Rattle.rules.specs.Copies.{pairs_agree}
 use Rattle.rules.specs.Commands.{Command}
 use Rattle.order_lists.specs.declared.Listed.{Listed}
 use Rattle.jobs.specs.declared.Job.{Job}
-use Rattle.jobs.specs.declared.Ran.{Ran}
+use Rattle.jobs.specs.Jobs.{Ran}
 use Rattle.commands.specs.declared.StartResult.{StartResult}
 use Rattle.joined.specs.Runs.{Run, AllRan}
 use Rattle.joined.specs.Items.{Carried, CarriedOut}
 use Rattle.joined.specs.ReadOut.{ReadFrom}
 use Rattle.joined.specs.Claim.{Demand3OfCode}
 
--- a run, and one more that returned r and left an image
+-- a run, and one more that left and answered r, and left an image
 abbrev pub two_runs : Run → ℕ → Ran → List ℕ → List Run
 two_runs one second r img' = one ∷ record { budget = second; returned = r; image = img' } ∷ []
 
--- runs with these two budgets, the last of which returned r and left the image img'
+-- runs with these two budgets, the last of which left and answered r, and left the image img'
 unfoldable pub RanTwice : Job → List ℕ → ℕ → ℕ → Ran → List ℕ → Type 0
 RanTwice j img first second r img' =
     (one : Run) × (one.budget ≡ first) × AllRan j img (two_runs one second r img')

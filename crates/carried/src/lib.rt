@@ -1,26 +1,30 @@
 // Any command carried out by a function: started, and its job run twice. Its contract says that these calls are as the
-// theorem of `joined` asks, so the contracts of `start`, of `jobs::run` and of the readers give what it assumes.
+// theorem of `joined` asks, so the contracts of `start`, of `Job::run` and of the readers give what it assumes.
 #![tactic(auto)]
 
 ghost use Rattle.commands.specs.Begins.{command_of};
+ghost use Rattle.jobs.specs.Jobs.{after_call};
 ghost use Rattle.carried.specs.Carrying.{RanTwice, CarriedTwice, ReadOutBy};
 
-use commands::{Command, StartResult};
-use jobs::Ran;
+use commands::Command;
+use jobs::Job;
 use order_lists::Listed;
-use rules::Setting;
+use rules::{Refusal, Setting};
 
-// Two runs of the job that a start returned, the second with the job that the first returned.
-pub fn run_twice(begun: StartResult, image: &mut [u8], first: usize, second: usize) -> Ran
-    ensures { RanTwice begun.job image.old first second result image.new }
+// Two runs of a job, the second with the job that the first left.
+pub fn run_twice(
+    job: &mut Job,
+    image: &mut [u8],
+    first: usize,
+    second: usize,
+) -> Result<usize, Refusal>
+    ensures { RanTwice job.old image.old first second (after_call job.new result) image.new }
 {
-    let job = begun.job;
-    let ran = jobs::run(job, image, first);
-    let next = ran.job;
-    jobs::run(next, image, second)
+    let _ = job.run(image, first);
+    job.run(image, second)
 }
 
-// Any command started, and two runs of its job.
+// Any command started, and two runs of its job: the job then, and what the second answered.
 pub fn carry_out(
     image: &mut [u8],
     setting: Setting,
@@ -28,12 +32,15 @@ pub fn carry_out(
     name: &[u8],
     first: usize,
     second: usize,
-) -> Ran
-    ensures { CarriedTwice setting (command_of command name.now) image.old first second result
+) -> (Job, Result<usize, Refusal>)
+    ensures { CarriedTwice setting (command_of command name.now) image.old first second
+        (after_call result.0 result.1)
         image.new }
 {
     let begun = commands::start(image, setting, command, name);
-    run_twice(begun, image, first, second)
+    let mut job = begun.job;
+    let did = run_twice(&mut job, image, first, second);
+    (job, did)
 }
 
 // The two readers asked on one flash.

@@ -26,7 +26,7 @@ use Rattle.handing.specs.Begun.{Handed, handed, handed_over, started_into, for_j
 -- ---- what a function for C returns and leaves
 
 module _ (before : List ℕ) where
-  pub other_length : (b : StartResult) → (length before ≡ job_size → ⊥) → handed malformed before ≡ started_into before b
+  pub other_length : (b : StartResult) → (length before ≡ job_size → ⊥) → handed (number_of malformed) before ≡ started_into before b
   unfolding started_into
   other_length b h = rw (ne_eqb (length before) job_size h)
 
@@ -78,5 +78,5 @@ begun_holds s img c before r after e =
     (holds_by before (eqb-true (length before) job_size t) (length img) s.granule (start_result s img c)
     (start_typed s img c) r after (rw t at e) (start s img c) (start_lists s img c)))
     (λ t. unfold for_job unless started_into BegunAs in
-    let left : handed r after ≡ handed malformed before = rw t at e in
+    let left : handed r after ≡ handed (number_of malformed) before = rw t at e in
     rw t (ap (λ (h : Handed). h.number) left, ap (λ (h : Handed). h.buffer) left))

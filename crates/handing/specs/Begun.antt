@@ -25,7 +25,7 @@ handed_over before j Started = handed 0 (encoded_over before j)
 -- a command's start over bytes: refused 90 where the buffer has another length than a job's
 unfoldable pub started_into : List ℕ → StartResult → Handed
 started_into before b =
-    cond (eqb (length before) job_size) (handed_over before b.job b.answer) (handed malformed before)
+    cond (eqb (length before) job_size) (handed_over before b.job b.answer) (handed (number_of malformed) before)
 
 -- ---- the same by the listed steps, as theorem `begun_holds` has it
 

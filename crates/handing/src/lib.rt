@@ -14,8 +14,7 @@ use blocks::bytes;
 use commands::Command;
 use drafts::Draft;
 use job_bytes::encoding;
-use rules::Setting;
-use rules::refusals::NOT_A_JOB;
+use rules::{Refusal, Setting};
 
 // The refusal, or 0 and the job into the buffer. What the job's steps do not use is not copied.
 fn hand_over(image: &[u8], draft: Draft, room: &[u8], job: &mut [u8]) -> u8
@@ -25,7 +24,7 @@ fn hand_over(image: &[u8], draft: Draft, room: &[u8], job: &mut [u8]) -> u8
 {
     let zeros = [0; 8];
     match draft {
-        Draft::Refused(why) => why.number,
+        Draft::Refused(why) => why.number(),
         Draft::NoSteps(plan) => {
             encoding::encode(plan, b"", b"", b"", &zeros, job);
             0
@@ -63,12 +62,12 @@ pub fn start_into(
         (start_result (setting granule spt0 spt1) image.now (command_of command name.now)) }
 {
     if job.len() != job_bytes::JOB_SIZE {
-        return NOT_A_JOB;
+        return Refusal::NotAJob.number();
     }
     let setting = Setting {
-        granule: granule,
-        spt0: spt0,
-        spt1: spt1,
+        granule,
+        spt0,
+        spt1,
     };
     let mut room = bytes::erased_block();
     let draft = commands::draft_command(image, setting, command, name, &mut room);

@@ -19,10 +19,8 @@ use Rattle.rules.specs.Book.{NameBytes}
 use Rattle.rules.specs.declared.Step.{Step}
 use Rattle.rules.proofs.Lists.ByteLists.{bytes_by_test}
 use Rattle.rules.proofs.Claim.Bridge.{never_refused_12}
-use Rattle.jobs.specs.Jobs.{under_way, admitted, steps_done, ran, progress_after, steps_left}
+use Rattle.jobs.specs.Jobs.{Ran, under_way, admitted, steps_done, ran, progress_after, steps_left}
 use Rattle.jobs.specs.declared.Job.{Job}
-use Rattle.jobs.specs.declared.Did.{Did}
-use Rattle.jobs.specs.declared.Ran.{Ran}
 use Rattle.blocks.specs.Made.{Lists}
 use Rattle.commands.specs.Begins.{command_of, Begins}
 use Rattle.commands.specs.declared.StartResult.{StartResult}
@@ -30,9 +28,7 @@ use Rattle.commands.specs.declared.Command.{Command as Asked}
 use Rattle.commands.proofs.NameLent.{bytes_lent}
 use Rattle.drafts.specs.declared.Outcome.TheVariants.{Started, Refused as NotStarted}
 use Rattle.book_entries.specs.Tables.{new_name}
-use Rattle.harness.specs.Finished.{finished, left_finished, told, done_by, left_by, done_after, left_after, done_begun, left_begun}
-use Rattle.harness.specs.declared.Done.{Done}
-use Rattle.harness.specs.declared.Done.TheVariants.{Refused}
+use Rattle.harness.specs.Finished.{finished, left_finished, done_by, left_by, done_after, left_after, done_begun, left_begun}
 use Rattle.rules.specs.declared.Refusal.TheVariants.{NoStepsLeft}
 
 -- ---- the name is of bytes
@@ -47,24 +43,23 @@ names_of_bytes c = bytes_lent c new_name name_of_bytes
 -- ---- what the code does with a run and with a start
 
 -- a run of as many steps as remain, and not none
-pub ran_all : (n : ℕ) (j : Job) (img after : List ℕ) (r : Ran) (d : Did)
+pub ran_all : (n : ℕ) (j : Job) (img after : List ℕ) (r : Ran)
     → (r ≡ ran j n (admitted j img)) × (under_way r.job after ≡ progress_after j n img (admitted j img))
     → (n ≡ 0 → ⊥)
-    → r.did ≡ d
-    → (told d ≡ done_by n j img) × (after ≡ left_by n j img)
-ran_all zero j img after r d m some e = absurd (some refl)
-ran_all (suc n) j img after r d (m, p) some e = (
-  unfold done_by in ap told (sym e ∙ ap (λ (x : Ran). x.did) m),
+    → (r.did ≡ done_by n j img) × (after ≡ left_by n j img)
+ran_all zero j img after r m some = absurd (some refl)
+ran_all (suc n) j img after r (m, p) some = (
+  unfold done_by in ap (λ (x : Ran). x.did) m,
   unfold left_by under_way in ap (λ (x : Progress). x.image) p,
 )
 
 module _ (b : StartResult) (img : List ℕ) where
   pub start_refused : (why : Refusal) → b.answer ≡ NotStarted why
-      → (Refused why ≡ done_begun b img) × (img ≡ left_begun b img)
+      → (refused why ≡ done_begun b img) × (img ≡ left_begun b img)
   unfolding done_begun left_begun
   start_refused why e = (rw e (unfold done_after in refl), rw e (unfold left_after in refl))
 
-  pub start_run : (n : ℕ) (d : Done) (after : List ℕ)
+  pub start_run : (n : ℕ) (d : Answer ℕ) (after : List ℕ)
       → b.answer ≡ Started
       → n ≡ steps_left b.job
       → (d ≡ done_by n b.job img) × (after ≡ left_by n b.job img)
@@ -78,9 +73,9 @@ module _ (b : StartResult) (img : List ℕ) where
 module _ (g : ℕ) (img : List ℕ) (j : Job) (s : Step) (l : List Step) (lists : Lists j (length img) g (s ∷ l))
     (may : admitted j img ≡ given (under_way j img)) where
   all_told : done_by (suc (length l)) j img ≡ finished (given (s ∷ l))
-  unfolding done_by told ran steps_done under_way finished
+  unfolding done_by ran steps_done under_way finished
   all_told =
-      ap (λ (x : Answer Progress). told (ran j (suc (length l)) x).did) may ∙ rw (lists.steps, take-length l)
+      ap (λ (x : Answer Progress). (ran j (suc (length l)) x).did) may ∙ rw (lists.steps, take-length l)
 
   all_left : left_by (suc (length l)) j img ≡ steps g (s ∷ l) img
   unfolding left_by progress_after run under_way

@@ -5,20 +5,16 @@ use Rattle.rules.specs.Steps.{steps}
 use Rattle.rules.specs.declared.Step.{Step}
 use Rattle.jobs.specs.Jobs.{did_by_run, image_after_run, steps_left}
 use Rattle.jobs.specs.declared.Job.{Job}
-use Rattle.jobs.specs.declared.Did.{Did}
-use Rattle.jobs.specs.declared.Did.TheVariants.{Steps as DidSteps, Refused as DidRefused}
 use Rattle.commands.specs.declared.StartResult.{StartResult}
 use Rattle.drafts.specs.declared.Outcome.{Outcome}
 use Rattle.drafts.specs.declared.Outcome.TheVariants.{Started, Refused as NotStarted}
-use Rattle.harness.specs.declared.Done.{Done}
-use Rattle.harness.specs.declared.Done.TheVariants.{Steps, Refused}
 
 -- ---- a command
 
 -- the refusal, or all its listed steps
-unfoldable pub finished : Answer (List Step) → Done
-finished (refused why) = Refused why
-finished (given ss) = Steps (length ss)
+unfoldable pub finished : Answer (List Step) → Answer ℕ
+finished (refused why) = refused why
+finished (given ss) = given (length ss)
 
 -- the image as it was, or with all listed steps done
 unfoldable pub left_finished : ℕ → List ℕ → Answer (List Step) → List ℕ
@@ -27,20 +23,16 @@ left_finished g img (given ss) = steps g ss img
 
 -- ---- a job of which so many steps remain
 
-unfoldable pub told : Did → Done
-told (DidSteps n) = Steps n
-told (DidRefused why) = Refused why
-
-unfoldable pub done_by : ℕ → Job → List ℕ → Done
-done_by zero j img = Steps 0
-done_by (suc n) j img = told (did_by_run j (suc n) img)
+unfoldable pub done_by : ℕ → Job → List ℕ → Answer ℕ
+done_by zero j img = given 0
+done_by (suc n) j img = did_by_run j (suc n) img
 
 unfoldable pub left_by : ℕ → Job → List ℕ → List ℕ
 left_by zero j img = img
 left_by (suc n) j img = image_after_run j (suc n) img
 
-unfoldable pub done_after : Outcome → Job → List ℕ → Done
-done_after (NotStarted why) j img = Refused why
+unfoldable pub done_after : Outcome → Job → List ℕ → Answer ℕ
+done_after (NotStarted why) j img = refused why
 done_after Started j img = done_by (steps_left j) j img
 
 unfoldable pub left_after : Outcome → Job → List ℕ → List ℕ
@@ -48,7 +40,7 @@ left_after (NotStarted why) j img = img
 left_after Started j img = left_by (steps_left j) j img
 
 -- the same of what a start returned
-unfoldable pub done_begun : StartResult → List ℕ → Done
+unfoldable pub done_begun : StartResult → List ℕ → Answer ℕ
 done_begun b img = done_after b.answer b.job img
 
 unfoldable pub left_begun : StartResult → List ℕ → List ℕ

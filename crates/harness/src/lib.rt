@@ -11,15 +11,8 @@ ghost use Rattle.harness.specs.Finished.{finished, left_finished, done_by, left_
 
 use commands::{Command, StartResult};
 use drafts::Outcome;
-use jobs::{Did, Job};
+use jobs::Job;
 use rules::{Refusal, Setting};
-
-// How many steps were done, or a refusal.
-#[derive(Clone, Copy)]
-pub enum Done {
-    Steps(usize),
-    Refused(Refusal),
-}
 
 // Starts a command; every rename is to the same name.
 pub fn begin(image: &[u8], setting: Setting, command: Command) -> StartResult
@@ -30,34 +23,29 @@ pub fn begin(image: &[u8], setting: Setting, command: Command) -> StartResult
 }
 
 // Runs a job of which so many steps remain: all of them in one run, and none where none remains.
-fn run_job(image: &mut [u8], job: Job, left: usize) -> Done
+fn run_job(image: &mut [u8], mut job: Job, left: usize) -> Result<usize, Refusal>
     ensures { (result ≡ done_by left job image.old) × (image.new ≡ left_by left job image.old) }
 {
     if left == 0 {
-        return Done::Steps(0);
+        return Ok(0);
     }
-    let ran = jobs::run(job, image, left);
-    let did = ran.did;
-    match did {
-        Did::Steps(n) => Done::Steps(n),
-        Did::Refused(why) => Done::Refused(why),
-    }
+    job.run(image, left)
 }
 
-// All steps of a start.
-pub fn run_begun(image: &mut [u8], begun: StartResult) -> Done
+// All steps of a start: how many were done, or a refusal.
+pub fn run_begun(image: &mut [u8], begun: StartResult) -> Result<usize, Refusal>
     ensures { (result ≡ done_begun begun image.old) × (image.new ≡ left_begun begun image.old) }
 {
     let answer = begun.answer;
     let job = begun.job;
     match answer {
-        Outcome::Refused(why) => Done::Refused(why),
-        Outcome::Started => run_job(image, job, jobs::remaining(job)),
+        Outcome::Refused(why) => Err(why),
+        Outcome::Started => run_job(image, job, job.remaining()),
     }
 }
 
 // Starts a command and does all its steps.
-pub fn finish(image: &mut [u8], setting: Setting, command: Command) -> Done
+pub fn finish(image: &mut [u8], setting: Setting, command: Command) -> Result<usize, Refusal>
     ensures { (result ≡ finished (start setting image.old (command_of command new_name)))
         × (image.new
         ≡ left_finished setting.granule image.old

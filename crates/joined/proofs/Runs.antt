@@ -1,4 +1,4 @@
--- Runs as the contract of `jobs::run` has them, each with the job and on the image that the last one left, come to the
+-- Runs as the contract of `Job::run` has them, each with the job and on the image that the last one left, come to the
 -- book's runs. Assumes nothing.
 use mathlib.Core.Path.{◌≡◌, refl, sym, ap, ◌∙◌}
 use mathlib.Core.List.{List, [], ◌∷◌, map}
@@ -12,10 +12,9 @@ use Rattle.rules.specs.Steps.{steps}
 use Rattle.rules.specs.Cuts.{Progress, run, may_run, runs}
 use Rattle.rules.specs.declared.Step.{Step}
 use Rattle.rules.proofs.Steps.Cutting.{under_way as started_with}
-use Rattle.jobs.specs.Jobs.{steps_of, under_way, admitted, ran, progress_after, RanBy}
+use Rattle.jobs.specs.Jobs.{Ran, steps_of, under_way, admitted, ran, progress_after, RanBy}
 use Rattle.jobs.specs.declared.Job.{Job}
 use Rattle.job_parts.specs.declared.Plan.{Plan}
-use Rattle.jobs.specs.declared.Ran.{Ran}
 use Rattle.blocks.specs.Made.{Lists, no_job}
 use Rattle.blocks.proofs.JobSteps.{no_job_sound}
 use Rattle.joined.specs.Runs.{Run, AllRan, left_by_runs}

@@ -24,10 +24,10 @@ pub record Carried : Type 0 where
 -- a start was refused with the number of that refusal, and the job of no steps stands beside it; or it returned a job of
 -- these steps, for an image of this length and with this granule
 unfoldable pub BegunSo : StartResult → ℕ → ℕ → Answer (List Step) → Type 0
-BegunSo b len g (refused why) = (told : Refusal) × (b ≡ refusal told) × (told.number ≡ number_of why)
+BegunSo b len g (refused why) = (told : Refusal) × (b ≡ refusal told) × (number_of told ≡ number_of why)
 BegunSo b len g (given ss) = (b.answer ≡ Started) × Lists b.job len g ss
 
--- it is as the contracts of the start and of `jobs::run` say, from this flash. Of a start nothing but `BegunSo` is used
+-- it is as the contracts of the start and of `Job::run` say, from this flash. Of a start nothing but `BegunSo` is used
 unfoldable pub CarriedOut : Setting → List ℕ → Carried → Type 0
 CarriedOut s img c =
     BegunSo c.begun (length img) s.granule (start s img c.command) × AllRan c.begun.job img c.runs

@@ -1,17 +1,16 @@
 -- Runs of a job one after the other, as their caller sees them. Assumes nothing.
 use Rattle.std.specs.Prelude.{List, [], ◌∷◌, ℕ}
 use Rattle.rules.specs.Cuts.{Progress}
-use Rattle.jobs.specs.Jobs.{under_way, RanBy}
+use Rattle.jobs.specs.Jobs.{Ran, under_way, RanBy}
 use Rattle.jobs.specs.declared.Job.{Job}
-use Rattle.jobs.specs.declared.Ran.{Ran}
 
--- a call of `jobs::run`: its budget, what it returned, and the image that it left
+-- a call of `Job::run`: its budget, what it left of the job and answered, and the image that it left
 pub record Run : Type 0 where
   pub budget : ℕ
   pub returned : Ran
   pub image : List ℕ
 
--- each run is as the contract of `jobs::run` says, with the job and on the image that the last one left
+-- each run is as the contract of `Job::run` says, with the job and on the image that the last one left
 unfoldable pub AllRan : Job → List ℕ → List Run → Type 0
 AllRan j img [] = Unit {0}
 AllRan j img (r ∷ rs) =

@@ -6,16 +6,17 @@ use Prim.Native.Nat.{ℕ, zero, suc, ◌<◌}
 use native.Mathlib.Omega.{arith}
 use borrow.Author.Tests.{eq-eqb}
 use lib.ListN.{length}
-use Rattle.rules.specs.Answers.{Answer, refused, given, unless, ◌>>=◌, numbered, number_of}
+use Rattle.rules.specs.Answers.{Answer, refused, given, unless, ◌>>=◌, number_of}
 use Rattle.rules.specs.declared.Setting.{Setting}
 use Rattle.rules.specs.declared.Refusal.{Refusal}
 use Rattle.rules.specs.Commands.{start}
 use Rattle.rules.specs.Cuts.{Progress, run}
 use Rattle.rules.specs.declared.Step.{Step}
+use mathlib.Core.Logic.{◌⊎◌, inl, inr}
+use Rattle.rules.specs.declared.Refusal.TheVariants.{BadLength, BadGranule, BadAddresses, NoPointers, CopiesDiffer, NoSuchSlot, NotInOrder, NameNotAllowed, NameTaken, NoStepsLeft, OutsideImage, RowTooShort, SlotEmpty, NoPlaceLeft, LengthWrong, NoRowLeft, NoStart, IsInOrder, NoMagic, NoTable, NotAJob, NameTooLong, NoSuchEntry, NoSuchPlace}
 use Rattle.rules.proofs.Lists.Tests.{given_inj, unless-given}
 use Rattle.jobs.specs.Jobs.{under_way, admitted, steps_done, advanced, ran, progress_after, RanBy, did_by_run, image_after_run}
 use Rattle.jobs.specs.declared.Job.{Job}
-use Rattle.jobs.specs.declared.Did.TheVariants.{Steps, Refused}
 use Rattle.jobs.proofs.Running.{run_returned}
 use Rattle.blocks.specs.Made.{Lists, no_job}
 use Rattle.job_bytes.specs.Form.{job_size, malformed, job_from, holds_job, decoded}
@@ -23,8 +24,8 @@ use Rattle.handing.specs.Begun.{for_job, BegunAs}
 use Rattle.runs_for_c.specs.Ran.{lent, running, RanAs}
 use Rattle.joined.specs.Runs.{AllRan}
 use Rattle.joined.specs.Items.{BegunSo, CarriedOut, flash_left, AllCarriedOut}
-use Rattle.joined_for_c.specs.Items.{RunForC, AllRanForC, CarriedForC, BegunForC, RunsAfter, CarriedOutForC, did_by, run_by_value, begun_by_value, by_value, AllCarriedOutForC}
-use Rattle.rules.proofs.Claim.RefusalNumbers.{NotZero, start_not_zero, run_not_zero, Plain, run_plain}
+use Rattle.joined_for_c.specs.Items.{refusals, first_numbered, RunForC, AllRanForC, CarriedForC, BegunForC, RunsAfter, CarriedOutForC, numbered, did_by, run_by_value, begun_by_value, by_value, AllCarriedOutForC}
+use Rattle.rules.proofs.Claim.RefusalNumbers.{NotZero, start_not_zero, run_not_zero, OfARun, run_refusals}
 
 -- ---- a buffer that holds a job
 
@@ -41,7 +42,41 @@ held bytes j e = e ∙ ap given (sym (the_job bytes j e))
 
 -- ---- runs
 
-refused_did : (n count : ℕ) → 0 < n → did_by n count ≡ Refused (numbered n)
+-- the refusal of a run by its number
+numbered_again : (why : Refusal) → (why ≡ NoStepsLeft) ⊎ (why ≡ OutsideImage) → why ≡ numbered (number_of why)
+unfolding numbered first_numbered refusals
+numbered_again why (inl e) = rw e
+numbered_again why (inr e) = rw e
+
+-- any refusal has the number of the one that its number gives
+number_again : (why : Refusal) → number_of (numbered (number_of why)) ≡ number_of why
+unfolding numbered first_numbered refusals
+number_again BadLength = refl
+number_again BadGranule = refl
+number_again BadAddresses = refl
+number_again NoPointers = refl
+number_again CopiesDiffer = refl
+number_again NoSuchSlot = refl
+number_again NotInOrder = refl
+number_again NameNotAllowed = refl
+number_again NameTaken = refl
+number_again NoStepsLeft = refl
+number_again OutsideImage = refl
+number_again RowTooShort = refl
+number_again SlotEmpty = refl
+number_again NoPlaceLeft = refl
+number_again LengthWrong = refl
+number_again NoRowLeft = refl
+number_again NoStart = refl
+number_again IsInOrder = refl
+number_again (NoMagic faults) = refl
+number_again (NoTable faults) = refl
+number_again NotAJob = refl
+number_again NameTooLong = refl
+number_again NoSuchEntry = refl
+number_again NoSuchPlace = refl
+
+refused_did : (n count : ℕ) → 0 < n → did_by n count ≡ refused (numbered n)
 unfolding did_by
 refused_did zero count h = absurd (omega (arith, h))
 refused_did (suc n) count h = refl
@@ -63,7 +98,7 @@ module _ (bytes img : List ℕ) (r : RunForC) where
       → Went
   unfolding run_by_value ran progress_after under_way
   run_refused n holds positive a number left =
-      let went = run_returned j img r.budget (Refused (numbered n)) img (rw (did_by_run, a)) (rw (image_after_run, a)) in
+      let went = run_returned j img r.budget (refused (numbered n)) img (rw (did_by_run, a)) (rw (image_after_run, a)) in
       (rw (number, left, refused_did n r.count positive) went, rw left holds)
 
   run_went : (p : Progress)
@@ -76,7 +111,7 @@ module _ (bytes img : List ℕ) (r : RunForC) where
   unfolding run_by_value ran progress_after did_by
   run_went p a number job image done =
       let n : ℕ = steps_done r.budget p in
-      let went = run_returned j img r.budget (Steps n) r.left.image (rw (did_by_run, a))
+      let went = run_returned j img r.budget (given n) r.left.image (rw (did_by_run, a))
       (image ∙ rw (image_after_run, a)) in
       let same = the_job r.left.job (advanced j n) job in
       (rw (number, done, same) went, held r.left.job (advanced j n) job)
@@ -87,18 +122,18 @@ module _ (bytes img : List ℕ) (r : RunForC) where
   unfolding running RanAs admitted
   one_run holds went =
       by_answer (admitted j img) refl (run_not_zero j.plan.granule j.plan.len (under_way j img))
-      (run_plain j.plan.granule j.plan.len (under_way j img)) (rw holds at went)
+      (run_refusals j.plan.granule j.plan.len (under_way j img)) (rw holds at went)
     where
       by_answer : (a : Answer Progress)
           → admitted j img ≡ a
           → NotZero a
-          → Plain a
+          → OfARun a
           → RanAs r.number r.budget (lent bytes img r.count) r.left
           (a >>= λ p. given (record { job = j; progress = p }))
           → Went
-      by_answer (refused why) e positive plain (number, left) =
-          run_refused number_of why holds positive (e ∙ ap refused plain) number left
-      by_answer (given p) e positive plain (number, (job, (image, (done, bytes)))) = run_went p e number job image done
+      by_answer (refused why) e positive one_of (number, left) =
+          run_refused (number_of why) holds positive (e ∙ ap refused (numbered_again why one_of)) number left
+      by_answer (given p) e positive one_of (number, (job, (image, (done, bytes)))) = run_went p e number job image done
 
 runs_by_value : (rs : List RunForC) (bytes img : List ℕ)
     → Held bytes
@@ -135,7 +170,7 @@ module _ (s : Setting) (img : List ℕ) (c : CarriedForC) where
   unfolding BegunSo by_value begun_by_value RunsAfter
   item_refused zero why positive number same none = absurd (omega (arith, positive))
   item_refused (suc n) why positive number same none =
-      rw number ((numbered (suc n), refl, same), no_runs no_job (rw number at none))
+      rw number ((numbered (suc n), refl, rw same (number_again why)), no_runs no_job (rw number at none))
 
   item_started : (ss : List Step)
       → BegunAs c.number c.buffer c.begun (length img) s.granule (given ss)
@@ -156,7 +191,7 @@ module _ (s : Setting) (img : List ℕ) (c : CarriedForC) where
           → NotZero a
           → BegunAs c.number c.buffer c.begun (length img) s.granule a
           → Carry a
-      by_answer (refused why) positive b = item_refused number_of why why positive (unfold BegunAs in b.0) refl went
+      by_answer (refused why) positive b = item_refused (number_of why) why positive (unfold BegunAs in b.0) refl went
       by_answer (given ss) positive b = item_started ss b went
 
 pub items_by_value : (s : Setting) (cs : List CarriedForC) (img : List ℕ)

@@ -1,11 +1,12 @@
 -- An item carried out by the functions for C, as their caller sees it: a job is the bytes of a lent buffer, an answer a
 -- number. Assumes nothing.
-use Rattle.std.specs.Prelude.{◌≡◌, Bool, List, [], ◌∷◌, map, ℕ, zero, suc, length}
-use Rattle.rules.specs.Answers.{numbered}
+use Rattle.std.specs.Prelude.{◌≡◌, Bool, cond, eqb, List, [], ◌∷◌, map, ℕ, zero, suc, length}
+use Rattle.rules.specs.Answers.{Answer, refused, given, number_of, no_fault}
+use Rattle.rules.specs.declared.TableFaults.{TableFaults}
+use Rattle.rules.specs.declared.Refusal.{Refusal}
+use Rattle.rules.specs.declared.Refusal.TheVariants.{BadLength, BadGranule, BadAddresses, NoPointers, CopiesDiffer, NoSuchSlot, NotInOrder, NameNotAllowed, NameTaken, NoStepsLeft, OutsideImage, RowTooShort, SlotEmpty, NoPlaceLeft, LengthWrong, NoRowLeft, NoStart, IsInOrder, NoMagic, NoTable, NotAJob, NameTooLong, NoSuchEntry, NoSuchPlace}
 use Rattle.rules.specs.declared.Setting.{Setting}
 use Rattle.rules.specs.Commands.{Command, start}
-use Rattle.jobs.specs.declared.Did.{Did}
-use Rattle.jobs.specs.declared.Did.TheVariants.{Steps, Refused}
 use Rattle.commands.specs.Begins.{refusal, started}
 use Rattle.commands.specs.declared.StartResult.{StartResult}
 use Rattle.job_bytes.specs.Form.{job_size, job_from}
@@ -61,9 +62,29 @@ CarriedOutForC s img c =
 
 -- ---- the same by the value of the job that the buffer holds
 
-unfoldable pub did_by : ℕ → ℕ → Did
-did_by zero count = Steps count
-did_by (suc n) count = Refused (numbered (suc n))
+-- one refusal of each number: of 50 and 51 one that tells no fault
+abbrev no_faults : TableFaults
+no_faults = record { fault0 = no_fault; fault1 = no_fault }
+
+unfoldable pub refusals : List Refusal
+refusals =
+    BadLength ∷ BadGranule ∷ BadAddresses ∷ NoPointers ∷ CopiesDiffer ∷ NoSuchSlot ∷ NotInOrder ∷ NameNotAllowed
+    ∷ NameTaken ∷ NoStepsLeft ∷ OutsideImage ∷ RowTooShort ∷ SlotEmpty ∷ NoPlaceLeft ∷ LengthWrong ∷ NoRowLeft
+    ∷ NoStart ∷ IsInOrder ∷ NoMagic no_faults ∷ NoTable no_faults ∷ NotAJob ∷ NameTooLong ∷ NoSuchEntry
+    ∷ NoSuchPlace ∷ []
+
+-- the first of some that has a number
+unfoldable pub first_numbered : ℕ → List Refusal → Refusal
+first_numbered n [] = NotAJob
+first_numbered n (why ∷ rest) = cond (eqb (number_of why) n) why (first_numbered n rest)
+
+-- a refusal that has the number told
+unfoldable pub numbered : ℕ → Refusal
+numbered n = first_numbered n refusals
+
+unfoldable pub did_by : ℕ → ℕ → Answer ℕ
+did_by zero count = given count
+did_by (suc n) count = refused (numbered (suc n))
 
 unfoldable pub run_by_value : RunForC → Run
 run_by_value r = record {

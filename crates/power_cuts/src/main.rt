@@ -11,10 +11,9 @@ ghost use Rattle.std.specs.Prelude.{◌≡◌, length};
 
 use book::{Book, Read};
 use commands::Command;
-use harness::Done;
 use harness::tearing::Choice;
-use jobs::{Job, Next};
-use rules::{Setting, SlotNo, Step};
+use jobs::Job;
+use rules::{Refusal, Setting, SlotNo, Step};
 use std::fs::File;
 use std::io;
 use std::io::Read as _;
@@ -49,11 +48,8 @@ fn further(cut: Book) -> Command {
     Command::Enable(SlotNo(0))
 }
 
-fn is_long(done: Done) -> bool {
-    match done {
-        Done::Steps(n) => 16 <= n,
-        Done::Refused(_) => false,
-    }
+fn is_long(done: Result<usize, Refusal>) -> bool {
+    done.is_ok_and(|n| 16 <= n)
 }
 
 // One image copied over another of the same length.
@@ -140,45 +136,35 @@ fn try_next(
     flash: &[u8],
     work: &mut [u8],
     setting: Setting,
-    next: Next,
+    next: Option<Step>,
     old: Book,
     new: Book,
     t: Tally,
 ) -> Tally {
     match next {
-        Next::Finished => t,
-        Next::Is(step) => match step {
-            Step::Program(_, _) => {
-                try_cut(flash, work, setting, 0, Choice::Lowest(0), old, new, t)
-            }
-            Step::Erase(at) => try_erase(flash, work, setting, at, old, new, t),
-        },
+        None => t,
+        Some(Step::Program(_, _)) => {
+            try_cut(flash, work, setting, 0, Choice::Lowest(0), old, new, t)
+        }
+        Some(Step::Erase(at)) => try_erase(flash, work, setting, at, old, new, t),
     }
 }
 
 // ---- one command
-
-fn one_step(job: Job, flash: &mut [u8]) -> Job {
-    let ran = jobs::run(job, flash, 1);
-    let next = ran.job;
-    next
-}
 
 // Every cut of a job, on a flash that starts as the image on which the job was started.
 fn try_job(
     flash: &mut [u8],
     work: &mut [u8],
     setting: Setting,
-    first: Job,
+    mut job: Job,
     old: Book,
     new: Book,
 ) -> Tally {
-    let count = jobs::remaining(first);
-    let mut job = first;
     let mut sum = tally::nothing();
-    for _ in 0..count {
-        sum = try_next(flash, work, setting, jobs::next_step(job), old, new, sum);
-        job = one_step(job, flash);
+    for _ in 0..job.remaining() {
+        sum = try_next(flash, work, setting, job.next_step(), old, new, sum);
+        let _ = job.run(flash, 1);
     }
     sum
 }
@@ -206,7 +192,7 @@ fn try_start(
         old,
         book::booked(old, command, image, setting),
     );
-    printing::print_result(rt, answer, jobs::remaining(job), sum)
+    printing::print_result(rt, answer, job.remaining(), sum)
 }
 
 fn try_command(

@@ -2,7 +2,6 @@
 use book::Answer;
 use book_orders::{Order, ROOM};
 use commands::Command;
-use harness::Done;
 use rules::{EntryNo, PlaceNo, Refusal, Setting, SlotNo};
 use std::io;
 
@@ -21,10 +20,10 @@ pub fn print_command(rt: &impl Print, command: Command) -> io::Result<()> {
     }
 }
 
-pub fn print_done(rt: &impl Print, done: Done) -> io::Result<()> {
+pub fn print_done(rt: &impl Print, done: Result<usize, Refusal>) -> io::Result<()> {
     match done {
-        Done::Steps(n) => println!(rt; "{n} steps"),
-        Done::Refused(why) => print_refusal(rt, why),
+        Ok(n) => println!(rt; "{n} steps"),
+        Err(why) => print_refusal(rt, why),
     }
 }
 

@@ -26,7 +26,7 @@ pub fn start<W: Write>(
         }
         Outcome::Started => {
             let job = begun.job;
-            printing::print_number(out, b"job", jobs::remaining(job) as u64)?;
+            printing::print_number(out, b"job", job.remaining() as u64)?;
             Ok(desk::with_job(desk, job))
         }
     }

@@ -1,12 +1,13 @@
 // Lines that do steps of the current job.
 use super::desk::Desk;
 use super::{changes, desk, printing};
-use fields::bounds::{Part, min, part_of};
-use jobs::{Did, Job, Next, Ran};
+use fields::bounds::part_of;
+use jobs::Job;
 use rules::Step;
 use script_lines::Steps;
 use std::io;
 use std::io::Write;
+use std::ops::Range;
 use tokens::words;
 
 pub fn carry_out<W: Write>(
@@ -19,7 +20,7 @@ pub fn carry_out<W: Write>(
     if !desk.busy {
         return desk::error(desk, out);
     }
-    let length = min(desk.length, room.len());
+    let length = desk.length.min(room.len());
     match asked {
         Steps::Run(budget) => run(desk, out, &mut room[0..length], budget),
         Steps::Cut(n, bytes) => cut(desk, out, &mut room[0..length], n, bytes),
@@ -28,15 +29,12 @@ pub fn carry_out<W: Write>(
 }
 
 fn run<W: Write>(desk: Desk, out: &mut W, image: &mut [u8], budget: usize) -> io::Result<Desk> {
-    let job = desk.job;
-    let ran = jobs::run(job, image, budget);
-    let did = ran.did;
-    match did {
-        Did::Refused(why) => printing::print_refused(out, why)?,
-        Did::Steps(n) => printing::print_number(out, b"ran", n as u64)?,
+    let mut job = desk.job;
+    match job.run(image, budget) {
+        Err(why) => printing::print_refused(out, why)?,
+        Ok(n) => printing::print_number(out, b"ran", n as u64)?,
     }
-    let after = ran.job;
-    Ok(desk::with_job(desk, after))
+    Ok(desk::with_job(desk, job))
 }
 
 // ---- cuts
@@ -49,13 +47,13 @@ fn cut<W: Write>(
     n: usize,
     bytes: usize,
 ) -> io::Result<Desk> {
-    let job = desk.job;
-    if jobs::remaining(job) <= n {
+    let mut job = desk.job;
+    if job.remaining() <= n {
         return desk::error(desk, out);
     }
-    let part = erase_after(jobs::run(job, image, n), image.len());
-    let to = min(part.to, image.len());
-    let from = min(part.from, to);
+    let part = erase_after(&mut job, image, n);
+    let to = part.end.min(image.len());
+    let from = part.start.min(to);
     wipe(&mut image[from..to], 0, bytes);
     dropped(desk, out)
 }
@@ -69,13 +67,13 @@ fn torn<W: Write>(
     ranges: usize,
     line: &[u8],
 ) -> io::Result<Desk> {
-    let job = desk.job;
-    if jobs::remaining(job) <= n {
+    let mut job = desk.job;
+    if job.remaining() <= n {
         return desk::error(desk, out);
     }
-    let part = erase_after(jobs::run(job, image, n), image.len());
-    let to = min(part.to, image.len());
-    let from = min(part.from, to);
+    let part = erase_after(&mut job, image, n);
+    let to = part.end.min(image.len());
+    let from = part.start.min(to);
     wipe_ranges(&mut image[from..to], ranges, line);
     dropped(desk, out)
 }
@@ -87,34 +85,25 @@ fn dropped<W: Write>(desk: Desk, out: &mut W) -> io::Result<Desk> {
 
 // The granule that comes next to be erased, after a run; else nothing. A run that is refused leaves the image as it was,
 // and the job is dropped all the same.
-fn erase_after(ran: Ran, length: usize) -> Part {
-    let did = ran.did;
-    match did {
-        Did::Refused(_) => part_of(length, 0, 0),
-        Did::Steps(_) => {
-            let job = ran.job;
-            erase_next(job, length)
-        }
+fn erase_after(job: &mut Job, image: &mut [u8], n: usize) -> Range<usize> {
+    match job.run(image, n) {
+        Err(_) => 0..0,
+        Ok(_) => erase_next(job, image.len()),
     }
 }
 
-fn erase_next(job: Job, length: usize) -> Part {
-    let plan = job.plan;
-    let next = jobs::next_step(job);
-    match next {
-        Next::Finished => part_of(length, 0, 0),
-        Next::Is(step) => match step {
-            Step::Program(_, _) => part_of(length, 0, 0),
-            Step::Erase(at) => part_of(length, at, plan.granule),
-        },
+fn erase_next(job: &Job, length: usize) -> Range<usize> {
+    match job.next_step() {
+        Some(Step::Erase(at)) => part_of(length, at, job.plan.granule).unwrap_or(0..0),
+        _ => 0..0,
     }
 }
 
 // What passes the granule's end is ignored.
 fn wipe(granule: &mut [u8], at: usize, n: usize) {
-    let from = min(at, granule.len());
-    let to = from + min(n, granule.len() - from);
-    fields::stores::fill(&mut granule[from..to], changes::ERASED);
+    let from = at.min(granule.len());
+    let to = from + n.min(granule.len() - from);
+    granule[from..to].fill(changes::ERASED);
 }
 
 // The ranges are the line's last words, in pairs. Each only sets bytes to 0xFF, so the last may come first.
@@ -136,7 +125,7 @@ struct Last {
 }
 
 fn last_of(line: &[u8], end: usize) -> Last {
-    let n = min(end, line.len());
+    let n = end.min(line.len());
     let part = &line[0..n];
     let from = words::last_word_start(part);
     let mut last = Last {

@@ -1,6 +1,7 @@
 -- `carry_out` carries a command out. Assumes nothing.
 use Rattle.commands.specs.Begins.{command_of}
 use Rattle.commands.proofs.NameLent.{bytes_lent}
+use Rattle.jobs.specs.Jobs.{after_call}
 use Rattle.carried.proofs.Carrying.{carried_by}
 use Rattle.carried.proofs.carry_out.Goals as goal
 
@@ -10,6 +11,6 @@ returns c =
     let name-known = c.shared_slice_known-1.given in
     let a = c.args in
     carried_by a.setting (command_of a.command a.name.now) a.image.now c.start-begun.result
-    a.first a.second c.run_twice.result c.run_twice.new.image
+    a.first a.second (after_call c.run_twice-did.new.job c.run_twice-did.result) c.run_twice-did.new.image
     (λ i. (known i).fits) (bytes_lent a.command a.name.now (λ i. (name-known i).fits))
-    c.start-begun.ensures c.run_twice.ensures
+    c.start-begun.ensures c.run_twice-did.ensures
