@@ -3,7 +3,7 @@
 
 ghost use Rattle.std.specs.Prelude.{◌≡◌, ◌+◌, ◌*◌, ◌≤◌, ◌<◌, eqb, length, take, get_or};
 ghost use Rattle.rules.specs.Bytes.{block_size, up_to_zero};
-ghost use Rattle.rules.specs.Lists.{all, keep};
+ghost use Rattle.rules.specs.Lists.{all, any, keep};
 ghost use Rattle.rules.specs.Table.{entry_count, rows, entries, has_name, named, no_entry, name};
 ghost use Rattle.walks.specs.Find.{find};
 ghost use Rattle.entries.specs.Tests.{Decides, Found};
@@ -200,6 +200,14 @@ impl<'a> Entries<'a> {
         ensures { Found self.now (find (has_name (up_to_zero wanted.now)) self.now) result }
     {
         self.position(|e| e.has_name(wanted))
+    }
+
+    // Some entry has the name.
+    #[tactic(auto, using(crate::proofs::Turns::any_by_found))]
+    pub fn is_named(&self, wanted: &[u8]) -> bool
+        ensures { result ≡ any (has_name (up_to_zero wanted.now)) self.now }
+    {
+        self.find_named(wanted).is_some()
     }
 
     // The start of the first entry that has the name; 0 where none has.

@@ -126,6 +126,7 @@ impl<'a> Model for Table<'a> {
 }
 
 impl<'a> Table<'a> {
+    #[tactic(auto, unfolding(crate::specs::Inner::RowsOf::slots_from, crate::specs::Inner::RowsOf::slots_before))]
     pub fn new(bytes: &'a [u8]) -> Table<'a>
         requires { HasEntries bytes.now (entry_count bytes.now) }
         ensures { result ≡ bytes.now }

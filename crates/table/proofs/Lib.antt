@@ -1,3 +1,2 @@
-pub mod FaultFound
-pub mod SixFound
-pub mod Standing
+mod Named
+mod Told

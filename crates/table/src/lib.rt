@@ -5,44 +5,26 @@
 
 ghost use Rattle.std.specs.Prelude.{◌≡◌, ◌+◌, ◌≤◌, ◌<◌, length};
 ghost use Rattle.rules.specs.Bytes.{block, block_size};
-ghost use Rattle.rules.specs.Table.{rows, magic_right, header_right, count_right, entries_stand, table_stands, fault};
-ghost use Rattle.walks.specs.Entries.{HasEntries};
+ghost use Rattle.rules.specs.Table.{magic_right, header_right, count_right, table_stands, fault};
 
-use entry_rules::{Rule, each, naming, ranges};
+use entries::Entries;
 use rules::{EntryNo, Fault, Setting, TableRule};
 
-mod faults; // the first rule that a copy breaks
-mod six; // rules 8 to 11
+mod faults; // rules 3 to 11, over the counted entries
 
 // What bytes 0-3 and 4-7 of a table hold.
 const MAGIC: u64 = 0x57713427;
 
 const VERSION: u64 = 0;
 
-// The entry numbers of BOOT_INFO, FACTORY_IMAGE, SPT0, SPT1, CPB0 and CPB1.
-#[derive(Clone, Copy)]
-pub struct SixEntries {
-    pub boot: EntryNo,
-    pub factory: EntryNo,
-    pub table0: EntryNo,
-    pub table1: EntryNo,
-    pub pointers0: EntryNo,
-    pub pointers1: EntryNo,
-}
-
-// The copy at an address of the image stands.
+// The copy at an address of the image stands: no rule is broken.
+#[tactic(auto, using(rules::proofs::Table::Faults::stands_exactly))]
 pub fn table_stands(image: &[u8], at: usize, setting: Setting) -> bool
     requires { (at + block_size ≤ length image.now) × (0 < setting.granule) }
     ensures { result
         ≡ table_stands setting (length image.now) (block image.now at) }
 {
-    let table = fields::block_at(image, at);
-    if !(header_is_right(table) & count_is_right(table)) {
-        return false;
-    }
-    let n = entries::entry_count(table);
-    let len = image.len() as u64;
-    entries_stand(table, n, len, setting)
+    table_fault(image, at, setting).is_none()
 }
 
 // The first broken rule of the copy at an address of the image, and the entry that breaks it.
@@ -57,48 +39,29 @@ pub fn table_fault(image: &[u8], at: usize, setting: Setting) -> Option<Fault>
     if !count_is_right(table) {
         return faults::broken_at(TableRule::CountRight, EntryNo(faults::NO_ENTRY));
     }
-    let n = entries::entry_count(table);
-    let len = image.len() as u64;
-    faults::entries_fault(table, n, len, setting)
+    faults::entries_fault(&Entries::counted(table), image.len() as u64, setting)
 }
 
 // The copy at an address of the image begins with the magic.
+#[tactic(auto, unfolding(rules::specs::Table::magic_right))]
 pub fn magic_right(image: &[u8], at: usize) -> bool
     requires { at + block_size ≤ length image.now }
     ensures { result ≡ magic_right (block image.now at) }
 {
-    let table = fields::block_at(image, at);
-    fields::le32(table, 0) == MAGIC
-}
-
-// Rules 3 to 11, over the first n entries. Here and below tests are joined by `&` and `|`, which take both sides:
-// no read depends on a test, and a proof needs no case for each.
-fn entries_stand(table: &[u8], n: usize, len: u64, setting: Setting) -> bool
-    requires { HasEntries table.now n × (0 < setting.granule) }
-    ensures { result ≡ entries_stand setting len (rows n table.now) }
-{
-    let unnamed = each::first_failing(Rule::NameRight, table, n);
-    let same = naming::first_same(table, n);
-    let unaligned = each::first_failing(Rule::RangeAligned, table, n);
-    let outside = each::first_failing(Rule::RangeInside(len), table, n);
-    let overlapping = ranges::first_overlap(table, n);
-    (unnamed.0 == n)
-        & (same.0 == n)
-        & (unaligned.0 == n)
-        & (outside.0 == n)
-        & (overlapping.0 == n)
-        & six::six_keep(table, n, setting)
+    fields::number::<4>(fields::block_at(image, at), 0) == MAGIC
 }
 
 // Rule 1: magic and version.
+#[tactic(auto, unfolding(rules::specs::Table::magic_right, rules::specs::Table::header_right))]
 fn header_is_right(table: &[u8]) -> bool
     requires { length table.now ≡ block_size }
     ensures { result ≡ header_right table.now }
 {
-    (fields::le32(table, 0) == MAGIC) & (fields::le32(table, 4) == VERSION)
+    (fields::number::<4>(table, 0) == MAGIC) & (fields::number::<4>(table, 4) == VERSION)
 }
 
 // Rule 2: the number of entries.
+#[tactic(auto, unfolding(rules::specs::Table::count_right))]
 fn count_is_right(table: &[u8]) -> bool
     requires { length table.now ≡ block_size }
     ensures { result ≡ count_right table.now }

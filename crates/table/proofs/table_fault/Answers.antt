@@ -1,14 +1,8 @@
--- `table::table_fault` meets its contract: rules 1 and 2, then the entries. Assumes nothing.
-use mathlib.Core.Path.{◌≡◌, sym}
-use mathlib.Core.Bool.{true}
-use native.Mathlib.Omega.{arith}
-use lib.ListN.{length}
-use Rattle.rules.specs.Table.{header_right, count_right, entries}
+-- Rules 1 and 2, then the entries.
+use Rattle.std.proofs.Common.{sym, ap, not, length}
 use Rattle.rules.proofs.Table.Standing.{at_most_127}
 use Rattle.walks.proofs.Joined.{failed, passed}
-use Rattle.table.proofs.FaultFound.{fault_1, fault_2, fault_of_entries}
-use mathlib.Core.Path.{ap}
-use mathlib.Core.Bool.{not}
+use Rattle.table.proofs.Told.{fault_1, fault_2, fault_of_entries}
 use Rattle.table.proofs.table_fault.Goals as goal
 
 pub returns-then-not-header_is_right : goal.returns-then-not-header_is_right
@@ -20,27 +14,25 @@ returns-then-not-header_is_right c =
 
 pub returns-then-not-count_is_right : goal.returns-then-not-count_is_right
 returns-then-not-count_is_right c =
-    let rule1 : header_right c.block_at-table.result.now ≡ true = passed c.header_is_right.ensures (ap not c.if-not-header_is_right.false) in
+    let rule1 = passed c.header_is_right.ensures (ap not c.if-not-header_is_right.false) in
     let a = c.args in
     rw (c.broken_at-then-not-count_is_right.ensures, ← c.block_at-table.ensures.0)
-    (sym (fault_2 a.setting (length a.image.now) c.block_at-table.result.now (rule1)
+    (sym (fault_2 a.setting (length a.image.now) c.block_at-table.result.now rule1
     (failed c.count_is_right.ensures (ap not c.if-not-count_is_right.true))))
 
-pub entries_fault-requires : goal.entries_fault-requires
-entries_fault-requires c =
-    let rule2 : count_right c.block_at-table.result.now ≡ true = passed c.count_is_right.ensures (ap not c.if-not-count_is_right.false) in
-    let most = at_most_127 c.block_at-table.result.now (rule2) in
-    (record { whole = c.block_at-table.ensures.1; few = rw c.entry_count-n.ensures most }, omega arith)
+pub counted-requires : goal.counted-requires
+counted-requires c =
+    let rule2 = passed c.count_is_right.ensures (ap not c.if-not-count_is_right.false) in
+    record { whole = c.block_at-table.ensures.1; few = at_most_127 c.block_at-table.result.now rule2 }
 
 pub returns : goal.returns
-unfolding entries
 returns c =
-    let rule1 : header_right c.block_at-table.result.now ≡ true = passed c.header_is_right.ensures (ap not c.if-not-header_is_right.false) in
-    let rule2 : count_right c.block_at-table.result.now ≡ true = passed c.count_is_right.ensures (ap not c.if-not-count_is_right.false) in
+    let rule1 = passed c.header_is_right.ensures (ap not c.if-not-header_is_right.false) in
+    let rule2 = passed c.count_is_right.ensures (ap not c.if-not-count_is_right.false) in
     let a = c.args in
     rw (
       ← c.block_at-table.ensures.0,
-      fault_of_entries a.setting (length a.image.now) c.block_at-table.result.now (rule1) (rule2),
+      fault_of_entries a.setting (length a.image.now) c.block_at-table.result.now rule1 rule2,
       c.entries_fault.ensures,
-      c.entry_count-n.ensures,
+      c.counted.ensures,
     )
