@@ -12,44 +12,36 @@ pub fn put_byte(out: &mut [u8], at: usize, byte: u8) -> usize
 {
     if at < out.len() {
         out[at] = byte;
-        return at + 1;
+        at + 1
+    } else {
+        at
     }
-    at
 }
 
 pub fn put_bytes(out: &mut [u8], at: usize, bytes: &[u8]) -> usize
     ensures { Put out.old at bytes.now out.new result }
 {
     let mut end = at;
-    let mut i = 0;
-    while i < bytes.len() {
-        end = put_byte(out, end, bytes[i]);
-        i += 1;
+    for byte in bytes {
+        end = put_byte(out, end, *byte);
     }
     end
 }
 
 // A byte of a name as it is shown: a question mark for one that is not printable, or a space.
+#[tactic(auto, unfolding(crate::specs::Shown::shown))]
 pub fn shown(byte: u8) -> u8
     ensures { result ≡ as_shown byte }
 {
-    if byte < 0x21 {
-        return b'?';
-    }
-    if 0x7E < byte {
-        return b'?';
-    }
-    byte
+    if byte.is_ascii_graphic() { byte } else { b'?' }
 }
 
 pub fn put_shown(out: &mut [u8], at: usize, name: &[u8]) -> usize
     ensures { Put out.old at (map as_shown name.now) out.new result }
 {
     let mut end = at;
-    let mut i = 0;
-    while i < name.len() {
-        end = put_byte(out, end, shown(name[i]));
-        i += 1;
+    for byte in name {
+        end = put_byte(out, end, shown(*byte));
     }
     end
 }
