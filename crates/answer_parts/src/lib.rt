@@ -22,16 +22,8 @@ pub fn put_numbers(out: &mut [u8], at: usize, row: &[u32]) -> usize
     ensures { Put out.old at (spaced_row row.now) out.new result }
 {
     let mut end = at;
-    let mut i = 0;
-    while i < row.len() {
-        end = put_number(out, end, wide(row[i]));
-        i += 1;
+    for number in row {
+        end = put_number(out, end, *number as u64);
     }
     end
-}
-
-fn wide(number: u32) -> u64
-    ensures { result ≡ number }
-{
-    number as u64
 }

@@ -1,11 +1,7 @@
-use Prim.Native.Nat.{◌≤◌, ◌-◌}
-use lib.ListN.{length, take}
+use Rattle.std.proofs.Common.{take}
 use Rattle.text.specs.Put.{Put}
 use Rattle.answer_parts.specs.Hex.{hex}
 use Rattle.answer_parts.proofs.hex.put.Given as goal
 
-abbrev pub invariant-loop-i : goal.invariant-loop-i
-invariant-loop-i l = Put l.initial.out l.initial.end (hex (take l.i l.bytes)) l.out l.end × (l.i ≤ length l.bytes)
-
-abbrev pub decreases-loop-i : goal.decreases-loop-i
-decreases-loop-i l = length l.bytes - l.i
+abbrev pub invariant-loop-byte : goal.invariant-loop-byte
+invariant-loop-byte l = Put l.initial.out l.initial.end (hex (take l.byte-index l.bytes)) l.out l.end
