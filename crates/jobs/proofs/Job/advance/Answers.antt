@@ -1,7 +1,6 @@
 -- `advance` counts steps that were carried out elsewhere. Assumes nothing.
-use mathlib.Core.Path.{◌≡◌, sym, ap, ◌∙◌}
+use mathlib.Core.Path.{sym, ap, ◌∙◌}
 use Rattle.std.proofs.lemmas.Result.{err_from_is_err_and}
-use Rattle.rules.specs.Answers.{refused, given}
 use Rattle.jobs.specs.Jobs.{returned, counting}
 use Rattle.jobs.proofs.Job.advance.Goals as goal
 
