@@ -3,16 +3,18 @@
 use mathlib.Core.Path.{◌≡◌, refl, sym, ap, ◌∙◌}
 use mathlib.Core.Bool.{Bool, true, false, not, ◌&&◌, ◌||◌}
 use mathlib.Core.List.{List, [], ◌∷◌, ◌++◌}
-use Prim.Native.Nat.{ℕ, zero, suc, ◌+◌, ◌<◌}
-use native.Mathlib.Nat.{le_of_suc-le-suc, not-suc-le-zero}
+use Prim.Native.Nat.{ℕ, zero, suc, ◌+◌, ◌≤◌, ◌<◌}
+use native.Mathlib.Nat.{le_refl}
 use native.Mathlib.Omega.{arith}
 use lib.Dec.{eqb, leb, ltb}
-use borrow.Author.Tests.{eqb-true, eqb-false, eq-eqb, ne_eqb}
-use lib.ListN.{length, get_or, take, drop}
+use borrow.Author.Tests.{eqb-true, eqb-false, eq-eqb, ne_eqb, lt-ltb, le-ltb}
+use lib.ListN.{length, get_or, take, drop, drop_of_length-le, get_or-eq_default}
+use native.Mathlib.Numerals.{add-one}
 use Rattle.rules.specs.Lists.{member, without, all, any, keep}
 use Rattle.rules.specs.Bytes.{up_to_zero}
-use Rattle.rules.specs.Table.{Entry, rows, is_slot, slots, slot_starts, has_name, is_fixed_name}
-use Rattle.rules.specs.Readers.{slot_row, slot_entry}
+use Rattle.rules.specs.Table.{Entry, no_entry, is_slot, slots, slot_starts, has_name, is_fixed_name}
+use Rattle.rules.specs.Readers.{slot_row}
+use Rattle.entries.proofs.Turns.{turn}
 use Rattle.rules.specs.Commands.{name_allowed, name_free}
 use Rattle.rules.proofs.Lists.Tests.{by_cases}
 use Rattle.rules.proofs.Order.Ordering.{eqb_swapped, member_of_without}
@@ -20,7 +22,6 @@ use Rattle.rules.proofs.Order.OnceEach.{left_out}
 use Rattle.walks.specs.Find.{find}
 use Rattle.walks.specs.Entries.{slot_from}
 use Rattle.walks.proofs.Find.{any-find}
-use Rattle.rules.proofs.Table.Standing.{length-entries_from}
 use Rattle.walks.proofs.Joined.{and_with_true, and_with_false}
 
 -- ---- a name that is allowed
@@ -78,36 +79,50 @@ module _ {A : Type 0} (f : A → Bool) (row : ℕ) where
   any_around i (suc k) (x ∷ xs) h =
       rw (ne_eqb i row (λ e. omega arith), any_around (suc i) k xs (omega arith))
 
-pub free_by_row : (es : List Entry) (row : ℕ) (n : List ℕ) → name_free es row n ≡ not (any_other
-    (has_name n) row 0 es)
+-- an entry other than the one of number row has the name, from entry i on
+abbrev pub others_named : List Entry → ℕ → List ℕ → ℕ → Bool
+others_named es row n i = any_other (has_name n) row i (drop i es)
+
+pub free_by_row : (es : List Entry) (row : ℕ) (n : List ℕ) → name_free es row n ≡ not (others_named es row n 0)
 unfolding name_free
 free_by_row es row n = rw (any_around (has_name n) row 0 row es (omega arith))
 
-module _ {A : Type 0} (f : A → Bool) (row i : ℕ) {xs rest : List A} {x : A} (e : xs ≡ x ∷ rest) where
-  pub other_here : not (eqb i row) && f x ≡ true → any_other f row i xs ≡ true
+module _ (es : List Entry) (row : ℕ) (n : List ℕ) (i : ℕ) where
+  pub named_here : i < length es → (i ≡ row → ⊥) → has_name n (get_or es i no_entry) ≡ true
+      → others_named es row n i ≡ true
   unfolding any_other
-  other_here t = rw (e, t)
+  named_here h other t = rw (turn es i h, ne_eqb i row other, t)
 
-  pub other_goes : not (eqb i row) && f x ≡ false → any_other f row i xs ≡ any_other f row (suc i) rest
+  pub row_passed : i < length es → i ≡ row → others_named es row n i ≡ others_named es row n (i + 1)
   unfolding any_other
-  other_goes t = rw (e, t)
+  row_passed h e = rw (turn es i h, eq-eqb i row e, add-one)
 
-pub other_over : {A : Type 0} (f : A → Bool) (row i : ℕ) {xs : List A} → xs ≡ [] → any_other f row i xs ≡ false
-unfolding any_other
-other_over f row i e = rw e
+  pub named_further : i < length es → has_name n (get_or es i no_entry) ≡ false
+      → others_named es row n i ≡ others_named es row n (i + 1)
+  unfolding any_other
+  named_further h f = rw (turn es i h, f, and_with_false, add-one)
+
+  pub named_nowhere : length es ≤ i → others_named es row n i ≡ false
+  unfolding any_other
+  named_nowhere h = rw (drop_of_length-le es {i = i} h)
 
 -- ---- where a slot starts
 
-pub start_of_slot : (es : List Entry) (k : ℕ) → k < length (slots es) → (slot_entry es k).start ≡ get_or
-    (slot_starts es) k 0
-unfolding slots slot_starts keep slot_row slot_entry
-start_of_slot [] k h = absurd (not-suc-le-zero h)
-start_of_slot (e ∷ es) zero h =
-    by_cases (is_slot e) (λ t. rw t) (λ t. rw t (start_of_slot es zero (rw t at h)))
-start_of_slot (e ∷ es) (suc k) h =
-    by_cases (is_slot e)
-    (λ t. rw t (start_of_slot es k (le_of_suc-le-suc (rw t at h))))
-    (λ t. rw t (start_of_slot es (suc k) (rw t at h)))
+-- no entry starts at 0, as no slot does
+start_at : (es : List Entry) (k : ℕ) → (get_or es (slot_row es k) no_entry).start ≡ get_or (slot_starts es) k 0
+unfolding slots slot_starts keep slot_row no_entry
+start_at [] k = refl
+start_at (e ∷ es) zero = by_cases (is_slot e) (λ t. rw t) (λ t. rw t (start_at es zero))
+start_at (e ∷ es) (suc k) = by_cases (is_slot e) (λ t. rw t (start_at es k)) (λ t. rw t (start_at es (suc k)))
+
+pub start_found : (es : List Entry) (k i : ℕ) → i ≡ slot_row es k
+    → (get_or es i no_entry).start ≡ get_or (slot_starts es) k 0
+start_found es k i e = rw e (start_at es k)
+
+pub start_not_found : (es : List Entry) (k : ℕ) → slot_row es k ≡ length es → get_or (slot_starts es) k 0 ≡ 0
+unfolding no_entry
+start_not_found es k e =
+    sym (rw (e, get_or-eq_default es no_entry {n = length es} (le_refl (length es))) at (start_at es k))
 
 -- ---- a start that another slot has
 
@@ -125,8 +140,17 @@ member_of_starts v (e ∷ es) =
     (λ t. rw (t, eqb_swapped v e.start, and_with_true, member_of_starts v es))
     (λ t. rw (t, and_with_false, member_of_starts v es))
 
-pub other_start : (v a n i : ℕ) (t : List ℕ) → i ≡ find (slot_from v) (rows n t)
-    → not (eqb v a) && ltb i n ≡ member v (without a (slot_starts (rows n t)))
-other_start v a n i t e =
-    sym (member-without v a (slot_starts (rows n t))
-    ∙ rw (member_of_starts v (rows n t), any-find (slot_from v) (rows n t), ← e, length-entries_from n (drop 0x20 t)))
+module _ (es : List Entry) (v a : ℕ) where
+  pub same_start : v ≡ a → member v (without a (slot_starts es)) ≡ false
+  same_start e = member-without v a (slot_starts es) ∙ rw (eq-eqb v a e)
+
+  pub other_start : (v ≡ a → ⊥) → find (slot_from v) es < length es → member v (without a (slot_starts es)) ≡ true
+  other_start other h =
+      member-without v a (slot_starts es)
+      ∙ rw (ne_eqb v a other, member_of_starts v es, any-find (slot_from v) es, lt-ltb (find (slot_from v) es) (length es) h)
+
+  pub no_start : find (slot_from v) es ≡ length es → member v (without a (slot_starts es)) ≡ false
+  no_start e =
+      member-without v a (slot_starts es)
+      ∙ rw (member_of_starts v es, any-find (slot_from v) es, le-ltb (find (slot_from v) es) (length es) (omega arith))
+      (and_with_false (not (eqb v a)))

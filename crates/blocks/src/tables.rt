@@ -1,43 +1,44 @@
-// A table t, of which the first n entries count: where a slot starts, what a start half cleared names, and the table
-// with another name in an entry.
-ghost use Rattle.std.specs.Prelude.{◌≡◌, true, ◌≤◌, ◌<◌, length, get_or};
+// A table: where a slot starts, what a start half cleared names, and the table with another name in an entry.
+ghost use Rattle.std.specs.Prelude.{◌≡◌, ◌≤◌, ◌<◌, length, get_or};
 ghost use Rattle.rules.specs.Lists.{member, without};
 ghost use Rattle.rules.specs.Bytes.{block_size, up_to_zero};
-ghost use Rattle.rules.specs.Table.{rows, entries, slots, slot_starts, starts};
+ghost use Rattle.rules.specs.Table.{slot_starts, starts};
 ghost use Rattle.rules.specs.Commands.{half_cleared_names, put_name, name_allowed, name_free};
-ghost use Rattle.walks.specs.Entries.{most_entries, HasEntries};
-ghost use Rattle.slots.specs.Inner.RowsOf.{HasRows};
+ghost use Rattle.walks.specs.Entries.{most_entries};
 
+use entries::Entries;
 use rules::{EntryNo, SlotNo};
-use slots::Rows;
+use slots::Table;
 
-// Where a slot starts.
-pub fn slot_start(t: &[u8], rows: Rows, slot: SlotNo) -> u64
-    requires { HasRows t.now rows × (slot.0 < length (slots (entries t.now))) }
+// Where a slot starts; 0 where there is no such slot.
+#[tactic(auto, using(crate::proofs::Naming::start_found, crate::proofs::Naming::start_not_found), unfolding(rules::specs::Table::starts))]
+pub fn slot_start(t: &Table<'_>, slot: SlotNo) -> u64
     ensures { result ≡ get_or (starts t.now) slot.0 0 }
 {
-    entries::entry_start(t, slots::row_of(t, rows, slot))
+    match t.row_of(slot) {
+        Some(e) => t.entries().get(e).start(),
+        None => 0,
+    }
 }
 
 // ---- a start half cleared
 
 // A slot other than the one that starts at a starts at v.
-fn names_other(t: &[u8], n: usize, a: u64, v: u64) -> bool
-    requires { HasEntries t.now n }
-    ensures { result ≡ member v (without a (slot_starts (rows n t.now))) }
+#[tactic(auto, using(crate::proofs::Naming::same_start, crate::proofs::Naming::other_start, crate::proofs::Naming::no_start))]
+fn names_other(entries: &Entries<'_>, a: u64, v: u64) -> bool
+    ensures { result ≡ member v (without a (slot_starts entries.now)) }
 {
-    let found = slots::find_slot(t, n, v);
-    (v != a) & (found.0 < n)
+    v != a && slots::find_slot(entries, v).is_some()
 }
 
 // The start with its lowest 1, 2 or 3 bytes set to 0 is another slot's.
-pub fn half_cleared_names(t: &[u8], n: usize, start: u64) -> bool
-    requires { HasEntries t.now n }
-    ensures { result ≡ half_cleared_names (slot_starts (rows n t.now)) start }
+#[tactic(auto, unfolding(rules::specs::Commands::half_cleared_names))]
+pub fn half_cleared_names(entries: &Entries<'_>, start: u64) -> bool
+    ensures { result ≡ half_cleared_names (slot_starts entries.now) start }
 {
-    names_other(t, n, start, start / 0x100 * 0x100)
-        | names_other(t, n, start, start / 0x10000 * 0x10000)
-        | names_other(t, n, start, start / 0x1000000 * 0x1000000)
+    names_other(entries, start, start / 0x100 * 0x100)
+        || names_other(entries, start, start / 0x10000 * 0x10000)
+        || names_other(entries, start, start / 0x1000000 * 0x1000000)
 }
 
 // ---- a new name
@@ -53,17 +54,14 @@ pub fn name_allowed(name: &[u8]) -> bool
 }
 
 // No entry other than this one has the name.
-pub fn name_free(t: &[u8], n: usize, e: EntryNo, name: &[u8]) -> bool
-    requires { HasEntries t.now n }
-    ensures { result ≡ name_free (rows n t.now) e.0 (up_to_zero name.now) }
+#[tactic(auto, using(crate::proofs::Naming::free_by_row, crate::proofs::Naming::named_here, crate::proofs::Naming::row_passed, crate::proofs::Naming::named_further, crate::proofs::Naming::named_nowhere))]
+pub fn name_free(entries: &Entries<'_>, e: EntryNo, name: &[u8]) -> bool
+    ensures { result ≡ name_free entries.now e.0 (up_to_zero name.now) }
 {
-    let row = e.0;
-    let mut i = 0;
-    while i < n {
-        if (i != row) & entries::has_name(t, EntryNo(i), name) {
+    for i in 0..entries.len() {
+        if i != e.0 && entries.get(EntryNo(i)).has_name(name) {
             return false;
         }
-        i += 1;
     }
     true
 }
@@ -75,8 +73,7 @@ pub fn put_name(t: &[u8], e: EntryNo, name: &[u8], room: &mut [u8])
     ensures { room.new ≡ put_name t.now e.0 name.now }
 {
     let at = entries::entry_offset(e);
-    let zeros = [0; 16];
     fields::stores::copy_block(room, 0, t);
-    fields::stores::copy(room, at, &zeros);
+    fields::stores::copy(room, at, &[0; 16]);
     fields::stores::copy(room, at, name);
 }
