@@ -23,6 +23,7 @@ pub fn copied(block: &[u8]) -> [u8; rules::BLOCK_SIZE]
 }
 
 // The eight bytes of a number, lowest first.
+#[tactic(auto, unfolding(rules::specs::Bytes::bytes_of))]
 pub fn bytes_of(v: u64) -> [u8; 8]
     ensures { result ≡ bytes_of 8 v }
 {
