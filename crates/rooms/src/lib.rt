@@ -2,24 +2,23 @@
 // or the next multiple of 4,096 where a place holds it. So the cost goes by entries and places, not by the image's length.
 #![tactic(auto)]
 
-ghost use Rattle.std.specs.Prelude.{◌≡◌, true, false, ◌+◌, ◌≤◌, ◌<◌, length};
+ghost use Rattle.std.specs.Prelude.{◌≡◌, true, false, ◌+◌, ◌≤◌, ◌<◌};
 ghost use Rattle.rules.specs.Lists.{member, all};
-ghost use Rattle.rules.specs.Bytes.{block_size};
 ghost use Rattle.rules.specs.Numbers.{longest};
-ghost use Rattle.rules.specs.Table.{rows, range_inside};
+ghost use Rattle.rules.specs.Table.{range_inside};
 ghost use Rattle.rules.specs.Pointers.{places as place_values, all_ones};
 ghost use Rattle.rules.specs.Commands.{lowest_start, size_right};
-ghost use Rattle.walks.specs.Entries.{entry_at, most_entries, HasEntries};
-ghost use Rattle.places.specs.Inner.PlacesOf.{HasPlaces};
 ghost use Rattle.rooms.specs.Inner.Candidates.{raised_by, raised, next_candidate, Placed};
 
-use places::Places;
+use entries::{Entries, Entry};
+use places::PointerBlock;
 use rules::{EntryNo, PlaceNo};
 
 // What addresses and lengths of slots are multiples of.
 const UNIT: u64 = rules::BLOCK_SIZE as u64;
 
 // The length of a new slot is a multiple of 4,096 and not 0.
+#[tactic(auto, unfolding(rules::specs::Commands::size_right, rules::specs::Bytes::multiple))]
 pub fn size_right(size: u64) -> bool
     ensures { result ≡ size_right size }
 {
@@ -27,75 +26,71 @@ pub fn size_right(size: u64) -> bool
 }
 
 // The end of the entry where the range overlaps it; else the range's own start.
-fn raised_by(t: &[u8], e: EntryNo, start: u64, size: u64) -> u64
-    requires { ((length t.now ≡ block_size) × (e.0 < most_entries))
-        × (((entry_at t.now e.0).start + (entry_at t.now e.0).size ≤ longest)
-        × ((start ≤ longest) × (size < 0x100000000))) }
-    ensures { result ≡ raised_by size (entry_at t.now e.0) start }
+fn raised_by(e: &Entry<'_>, start: u64, size: u64) -> u64
+    requires { ((e.now).start + (e.now).size ≤ longest)
+        × ((start ≤ longest) × (size < 0x100000000)) }
+    ensures { result ≡ raised_by size e.now start }
 {
-    let from = entries::entry_start(t, e);
-    let end = from + entries::entry_size(t, e);
+    let from = e.start();
+    let end = from + e.size();
     if (start + size <= from) | (end <= start) {
         return start;
     }
     end
 }
 
-// One walk over n entries, in which the start is raised above each that its range overlaps.
-fn raised(t: &[u8], n: usize, start: u64, size: u64) -> u64
-    requires { (HasEntries t.now n × (all (range_inside longest) (rows n t.now) ≡ true))
+// One walk over the entries, in which the start is raised above each that its range overlaps.
+fn raised(entries: &Entries<'_>, start: u64, size: u64) -> u64
+    requires { (all (range_inside longest) entries.now ≡ true)
         × ((start ≤ longest) × (size < 0x100000000)) }
-    ensures { result ≡ raised size (rows n t.now) start }
+    ensures { result ≡ raised size entries.now start }
 {
     let mut a = start;
-    let mut i = 0;
-    while i < n {
-        a = raised_by(t, EntryNo(i), a, size);
-        i += 1;
+    for i in 0..entries.len() {
+        a = raised_by(&entries.get(EntryNo(i)), a, size);
     }
     a
 }
 
 // Some place holds the value, which is not that of an erased place.
-fn held(p: &[u8], places: Places, v: u64) -> bool
-    requires { HasPlaces p.now places × (all_ones v ≡ false) }
+fn held(p: &PointerBlock<'_>, v: u64) -> bool
+    requires { all_ones v ≡ false }
     ensures { result ≡ member v (place_values p.now) }
 {
-    if places.count == 0 {
+    if p.count() == 0 {
         return false;
     }
-    if v == places::place_value(p, places, PlaceNo(0)) {
+    if v == p.value(PlaceNo(0)) {
         return true;
     }
-    place_walks::occurs_above(p, places, PlaceNo(0), v)
+    place_walks::occurs_above(p, PlaceNo(0), v)
 }
 
 // The candidate itself where it may be the start, else the next one.
-fn next_candidate(t: &[u8], n: usize, p: &[u8], places: Places, a: u64, size: u64) -> u64
-    requires { ((HasEntries t.now n × (all (range_inside longest) (rows n t.now) ≡ true)) × HasPlaces p.now places)
+fn next_candidate(entries: &Entries<'_>, p: &PointerBlock<'_>, a: u64, size: u64) -> u64
+    requires { (all (range_inside longest) entries.now ≡ true)
         × ((a ≤ longest) × (size < 0x100000000)) }
-    ensures { result ≡ next_candidate size (rows n t.now) (place_values p.now) a }
+    ensures { result ≡ next_candidate size entries.now (place_values p.now) a }
 {
-    let b = raised(t, n, a, size);
+    let b = raised(entries, a, size);
     if b != a {
         return b;
     }
-    if held(p, places, a) {
+    if held(p, a) {
         return a + UNIT;
     }
     a
 }
 
-// The lowest multiple of 4,096 from which this many bytes fit into an image of a length, overlap none of n entries, and
+// The lowest multiple of 4,096 from which this many bytes fit into an image of a length, overlap none of the entries, and
 // which no place holds; the image's length where there is none.
-pub fn lowest_start(t: &[u8], n: usize, p: &[u8], places: Places, len: u64, size: u64) -> u64
-    requires { ((HasEntries t.now n × Placed len (rows n t.now)) × HasPlaces p.now places)
-        × ((size_right size ≡ true) × (size < 0x100000000)) }
-    ensures { result ≡ lowest_start 0 len (rows n t.now) (place_values p.now) size }
+pub fn lowest_start(entries: &Entries<'_>, p: &PointerBlock<'_>, len: u64, size: u64) -> u64
+    requires { Placed len entries.now × ((size_right size ≡ true) × (size < 0x100000000)) }
+    ensures { result ≡ lowest_start 0 len entries.now (place_values p.now) size }
 {
     let mut a = 0;
     while a + size <= len {
-        let b = next_candidate(t, n, p, places, a, size);
+        let b = next_candidate(entries, p, a, size);
         if b == a {
             return a;
         }

@@ -9,7 +9,7 @@ use lib.Dec.{ltb}
 use borrow.Author.Tests.{le-leb, ltb-true, ltb-false}
 use Rattle.rules.specs.Lists.{all}
 use Rattle.rules.specs.Numbers.{longest}
-use Rattle.rules.specs.Table.{Entry, range_inside, rows}
+use Rattle.rules.specs.Table.{Entry, range_inside}
 use Rattle.rules.specs.Pointers.{places}
 use Rattle.rules.proofs.Lists.Tests.{by_cases}
 use Rattle.rules.proofs.Lists.Combinators.{all_weaker}
@@ -36,40 +36,35 @@ in_longest len es placed =
 pub loop-a-init : goal.loop-a-init
 loop-a-init c =
     let a = c.args in
-    first_candidate a.len (rows a.n a.t.now) (places a.p.now) a.size c.requires.1.0 c.requires.0.0.1
+    first_candidate a.len a.entries.now (places a.p.now) a.size c.requires.1.0 c.requires.0
 
 pub overflow_add-a : goal.overflow_add-a
 overflow_add-a c =
-    omega (arith, c.loop-a.invariant.inside, c.requires.0.0.1.short, c.requires.1.1)
+    omega (arith, c.loop-a.invariant.inside, c.requires.0.short, c.requires.1.1)
 
 pub next_candidate-b-requires : goal.next_candidate-b-requires
 next_candidate-b-requires c =
     let a = c.args in
-    let placed = c.requires.0.0.1 in (
-      (
-        (c.requires.0.0.0, in_longest a.len (rows a.n a.t.now) placed),
-        c.requires.0.1,
-      ),
-      (omega (arith, c.loop-a.invariant.inside, placed.short), c.requires.1.1),
-    )
+    let placed = c.requires.0 in
+    (in_longest a.len a.entries.now placed, (omega (arith, c.loop-a.invariant.inside, placed.short), c.requires.1.1))
 
 pub returns-then-b-a : goal.returns-then-b-a
 returns-then-b-a c =
     let a = c.args in
-    let es = rows a.n a.t.now in
+    let es = a.entries.now in
     let ps = places a.p.now in
     let k = c.loop-a.invariant in
     sym (search_finds a.len es ps a.size c.requires.1.0 c.loop-a.a k.aligned k.none
-    (stays_may a.len es ps a.size c.requires.1.0 c.requires.0.0.1 c.loop-a.a (omega arith)
+    (stays_may a.len es ps a.size c.requires.1.0 c.requires.0 c.loop-a.a (omega arith)
     (sym c.next_candidate-b.ensures ∙ c.if-b-a.true)))
 
 pub loop-a-smaller : goal.loop-a-smaller
 loop-a-smaller c =
     let a = c.args in
-    let es = rows a.n a.t.now in
+    let es = a.entries.now in
     let ps = places a.p.now in
-    let up = next_rises a.len es ps a.size c.requires.1.0 c.requires.0.0.1 c.loop-a.a in
-    let next = next_is_candidate a.len es ps a.size c.requires.1.0 c.requires.0.0.1 c.loop-a.a c.loop-a.invariant
+    let up = next_rises a.len es ps a.size c.requires.1.0 c.requires.0 c.loop-a.a in
+    let next = next_is_candidate a.len es ps a.size c.requires.1.0 c.requires.0 c.loop-a.a c.loop-a.invariant
     (omega arith) in
     falls c.loop-a.a c.next_candidate-b.result a.len (rw (← c.next_candidate-b.ensures) at up)
     c.if-b-a.false (omega (arith, next.inside, c.next_candidate-b.ensures))
@@ -77,14 +72,14 @@ loop-a-smaller c =
 pub loop-a-preserved : goal.loop-a-preserved
 loop-a-preserved c =
     let a = c.args in
-    let es = rows a.n a.t.now in
+    let es = a.entries.now in
     let ps = places a.p.now in
     rw c.next_candidate-b.ensures
-    (next_is_candidate a.len es ps a.size c.requires.1.0 c.requires.0.0.1 c.loop-a.a c.loop-a.invariant
+    (next_is_candidate a.len es ps a.size c.requires.1.0 c.requires.0 c.loop-a.a c.loop-a.invariant
     (omega arith))
 
 pub returns : goal.returns
 returns c =
     let a = c.args in
-    sym (search_fails a.len (rows a.n a.t.now) (places a.p.now) a.size c.requires.1.0 c.loop-a.a
+    sym (search_fails a.len a.entries.now (places a.p.now) a.size c.requires.1.0 c.loop-a.a
     c.loop-a.invariant.none (omega arith))

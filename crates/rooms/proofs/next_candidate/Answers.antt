@@ -22,7 +22,7 @@ returns-then-b-a c =
 
 pub held-requires : goal.held-requires
 held-requires c =
-    (c.requires.0.1, not_erased c.args.a c.requires.1.0)
+    not_erased c.args.a c.requires.1.0
 
 pub returns-then-held : goal.returns-then-held
 unfolding next_candidate

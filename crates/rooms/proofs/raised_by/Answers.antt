@@ -5,7 +5,6 @@ use Prim.Native.Nat.{◌+◌}
 use lib.Dec.{leb}
 use Rattle.rules.specs.Table.{ranges_apart}
 use Rattle.rules.specs.Commands.{new_range}
-use Rattle.walks.specs.Entries.{entry_at}
 use Rattle.rooms.specs.Inner.Candidates.{raised_by}
 use Rattle.rooms.proofs.raised_by.Goals as goal
 
@@ -13,16 +12,16 @@ pub returns-then-start-size : goal.returns-then-start-size
 unfolding raised_by ranges_apart new_range
 returns-then-start-size c =
     let a = c.args in
-    let e = entry_at a.t.now a.e.0 in
+    let e = a.e.now in
     let apart : leb (a.start + a.size) e.start || leb (e.start + e.size) a.start ≡ true =
-    rw (c.entry_start-from.ensures, c.entry_size.ensures) at c.if-start-size.true in
+    rw (c.start-from.ensures, c.size.ensures) at c.if-start-size.true in
     sym (rw apart)
 
 pub returns : goal.returns
 unfolding raised_by ranges_apart new_range
 returns c =
     let a = c.args in
-    let e = entry_at a.t.now a.e.0 in
+    let e = a.e.now in
     let over : leb (a.start + a.size) e.start || leb (e.start + e.size) a.start ≡ false =
-    rw (c.entry_start-from.ensures, c.entry_size.ensures) at c.if-start-size.false in
-    rw (c.entry_start-from.ensures, c.entry_size.ensures, over)
+    rw (c.start-from.ensures, c.size.ensures) at c.if-start-size.false in
+    rw (c.start-from.ensures, c.size.ensures, over)
