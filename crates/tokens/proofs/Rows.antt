@@ -11,18 +11,19 @@ use Rattle.rules.specs.Lists.{all}
 use Rattle.tokens.specs.Words.{later_words, LastWordBegins}
 use Rattle.answer_parts.specs.Hex.{is_bytes}
 use Rattle.tokens.specs.Numbers.{number, no_numbers, numbers, numbers_before_bytes}
-use Rattle.tokens.specs.declared.numbers.Number.{Number}
+use Rattle.std.specs.Prelude.{Option}
+use Rattle.std.specs.Option.{is_some, unwrap_or}
 use Rattle.tokens.specs.declared.numbers.Row.{Row}
 use Rattle.tokens.proofs.WordsOfLine.{no_later, one_later}
 
 -- one word more in front
-pub front : {row : Row} {n : Number} (w : List ℕ) (ws : List (List ℕ))
+pub front : {row : Row} {n : Option ℕ} (w : List ℕ) (ws : List (List ℕ))
     → n ≡ number w
     → row ≡ numbers ws
     → record {
-      numeric = n.right && row.numeric;
+      numeric = is_some n && row.numeric;
       count = row.count + 1;
-      first = n.value;
+      first = unwrap_or n 0;
       second = row.first;
       third = row.second;
       fourth = row.third;

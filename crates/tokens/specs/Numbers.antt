@@ -1,38 +1,32 @@
 -- Decimal numbers of a script, and the words of a line read as numbers. Assumes nothing.
-use Rattle.std.specs.Prelude.{Bool, true, false, cond, ◌&&◌, List, [], ◌∷◌, ℕ, ◌+◌, ◌-◌, ◌*◌, ◌^◌, leb, ltb, length, get_or, take}
+use Rattle.std.specs.Prelude.{Bool, cond, ◌&&◌, List, [], ◌∷◌, ℕ, ◌+◌, ◌-◌, ◌*◌, ◌^◌, leb, ltb, length, get_or, take, Option, Some, None}
 use Rattle.rules.specs.Lists.{all}
 use Rattle.answer_parts.specs.Hex.{is_bytes}
-use Rattle.tokens.specs.declared.numbers.Number.{Number}
+use Rattle.std.specs.Option.{is_some, unwrap_or}
 use Rattle.tokens.specs.declared.numbers.Row.{Row}
 
 -- ---- one word
-
-abbrev pub is : ℕ → Number
-is v = record { right = true; value = v }
-
-abbrev pub wrong : Number
-wrong = record { right = false; value = 0 }
 
 -- the value of a decimal digit; 10 for any other byte
 unfoldable pub digit : ℕ → ℕ
 digit b = cond (leb 0x30 b && leb b 0x39) (b - 0x30) 10
 
 -- a number of which the digits so far have the value v: below 2^64, and digits only
-unfoldable pub number_from : ℕ → List ℕ → Number
-number_from v [] = is v
+unfoldable pub number_from : ℕ → List ℕ → Option ℕ
+number_from v [] = Some v
 number_from v (b ∷ bs) =
-    cond (ltb (digit b) 10 && ltb (10 * v + digit b) (2 ^ 64)) (number_from (10 * v + digit b) bs) wrong
+    cond (ltb (digit b) 10 && ltb (10 * v + digit b) (2 ^ 64)) (number_from (10 * v + digit b) bs) None
 
 -- "Numbers are decimal digits, leading zeros allowed, at most 2^64 - 1"
-unfoldable pub number : List ℕ → Number
-number [] = wrong
+unfoldable pub number : List ℕ → Option ℕ
+number [] = None
 number (b ∷ bs) = number_from 0 (b ∷ bs)
 
 abbrev pub is_number : List ℕ → Bool
-is_number w = (number w).right
+is_number w = is_some (number w)
 
 abbrev pub value : List ℕ → ℕ
-value w = (number w).value
+value w = unwrap_or (number w) 0
 
 -- ---- the words after the verb
 

@@ -1,17 +1,11 @@
 // Decimal numbers in the words of a line.
 ghost use Rattle.std.specs.Prelude.{◌≡◌, List, ◌∷◌, ℕ, ◌≤◌, ◌<◌};
+ghost use Rattle.std.specs.Option.{IfSome, IfNone};
 ghost use Rattle.tokens.specs.Words.{later_words};
-ghost use Rattle.tokens.specs.Numbers.{digit, wrong, number, value, no_numbers, numbers, numbers_before_bytes};
+ghost use Rattle.tokens.specs.Numbers.{digit, number, value, no_numbers, numbers, numbers_before_bytes};
 
 use super::words::last_word_start;
 use answer_parts::hex;
-
-// A word read as a number: whether it is one, and its value, or 0.
-#[derive(Clone, Copy)]
-struct Number {
-    right: bool,
-    value: usize,
-}
 
 // The words after the verb read as numbers: whether each is one, how many there are, and the first four.
 #[derive(Clone, Copy)]
@@ -24,58 +18,37 @@ pub struct Row {
     pub fourth: usize,
 }
 
-const LARGEST: usize = 18446744073709551615;
-
-// The value of a decimal digit; 10 for any other byte.
-fn digit(byte: u8) -> usize
-    ensures { (result ≡ digit byte) × (result ≤ 10) }
+// The value of a decimal digit.
+#[tactic(auto, unfolding(crate::specs::Numbers::digit))]
+fn digit(byte: u8) -> Option<usize>
+    ensures some { IfSome result (λ value. (value ≡ digit byte) × (value < 10)) }
+    ensures none { IfNone result (10 ≤ digit byte) }
 {
-    if byte < b'0' {
-        return 10;
-    }
-    if b'9' < byte {
-        return 10;
-    }
-    (byte - b'0') as usize
-}
-
-fn wrong() -> Number
-    ensures { result ≡ wrong }
-{
-    Number {
-        right: false,
-        value: 0,
+    match byte {
+        b'0'..=b'9' => Some((byte - b'0') as usize),
+        _ => None,
     }
 }
 
 // Decimal digits, at least one, of a number below 2^64.
-fn number_of(word: &[u8]) -> Number
+fn number_of(word: &[u8]) -> Option<usize>
     ensures { result ≡ number word.now }
 {
-    if word.len() == 0 {
-        return wrong();
+    if word.is_empty() {
+        return None;
     }
-    let mut value = 0;
-    let mut i = 0;
-    while i < word.len() {
-        let d = digit(word[i]);
-        if 9 < d {
-            return wrong();
-        }
-        if (LARGEST - d) / 10 < value {
-            return wrong();
-        }
-        value = 10 * value + d;
-        i += 1;
+    let mut value: usize = 0;
+    for byte in word {
+        let digit = digit(*byte)?;
+        value = value.checked_mul(10)?.checked_add(digit)?;
     }
-    Number { right: true, value }
+    Some(value)
 }
 
 pub fn value_of(word: &[u8]) -> usize
     ensures { result ≡ value word.now }
 {
-    let number = number_of(word);
-    number.value
+    number_of(word).unwrap_or(0)
 }
 
 // The numbers of no word.
@@ -99,9 +72,9 @@ fn with_front(word: &[u8], row: Row) -> Row
 {
     let number = number_of(word);
     Row {
-        numeric: number.right & row.numeric,
+        numeric: number.is_some() & row.numeric,
         count: row.count + 1,
-        first: number.value,
+        first: number.unwrap_or(0),
         second: row.first,
         third: row.second,
         fourth: row.third,
