@@ -1,14 +1,16 @@
 -- Place numbers noted one after another, two bytes for each. Assumes nothing.
-use mathlib.Core.Path.{◌≡◌, ◌∙◌}
+use mathlib.Core.Path.{◌≡◌, sym, ap, ◌∙◌}
 use mathlib.Core.List.{List, [], ◌∷◌, ◌++◌, append_assoc, append-nil}
-use Prim.Native.Nat.{ℕ, suc, ◌+◌, ◌*◌, ◌-◌, ◌/◌, ◌%◌, ◌<◌}
+use Prim.Native.Nat.{ℕ, suc, ◌+◌, ◌*◌, ◌-◌, ◌<◌}
 use native.Mathlib.Omega.{arith}
 use lib.ListN.{length, replicate, length-append}
-use lib.Seq.{append_snoc, set_at}
+use lib.Seq.{take_at, drop-append-add}
 use Rattle.rules.specs.Bytes.{bytes_of}
+use Rattle.rules.specs.Final.{put_at}
+use Rattle.rules.proofs.Lists.Words.{length-bytes_of}
 use Rattle.jobs.specs.Jobs.{place_room}
 use Rattle.blocks.specs.Made.{number_bytes, place_list}
-use Rattle.place_lists.specs.Inner.Walked.{noted}
+use Rattle.blocks.specs.declared.PlaceList.{PlaceList}
 use Rattle.blocks.proofs.Noting.{length-number_bytes}
 
 number_bytes_last : (ks : List ℕ) (k : ℕ) → number_bytes (ks ++ (k ∷ [])) ≡ number_bytes ks ++ bytes_of 2 k
@@ -16,29 +18,38 @@ unfolding number_bytes
 number_bytes_last [] k = append-nil (bytes_of 2 k)
 number_bytes_last (j ∷ ks) k = rw (number_bytes_last ks k, append_assoc)
 
-module _ (ks : List ℕ) (k : ℕ) (room : length ks < place_room) (small : k < place_room) where
-  one_more : noted (length ks) k (place_list ks).places ≡ (place_list (ks ++ (k ∷ []))).places
-  unfolding noted place_list bytes_of
-  one_more =
-      let front = number_bytes ks in
-      let rest : List ℕ = replicate (2 * (place_room - length (ks ++ (k ∷ [])))) 0 in
-      let two : 2 * (place_room - length ks) ≡ suc (suc (2 * (place_room - length (ks ++ (k ∷ []))))) = omega
-      (arith, length-append ks (k ∷ [])) in
-      let high : k / 256 % 256 ≡ k / 256 = omega arith in
-      rw (
-        two,
-        set_at front 0 (0 ∷ rest) (k % 256) (2 * length ks) (length-number_bytes ks),
-        ← append_snoc front (k % 256) (0 ∷ rest),
-        set_at (front ++ (k % 256 ∷ [])) 0 rest (k / 256) (2 * length ks + 1) (length-append front (k % 256 ∷ [])
-            ∙ omega (arith, length-number_bytes ks)),
-        number_bytes_last ks k,
-        high,
-      )
-      (simp append_assoc)
+-- the number after the last, where zeros were
+pub one_more : (ks : List ℕ) (k : ℕ) → length ks < place_room
+    → put_at (2 * length ks) (bytes_of 2 k) (place_list ks).places ≡ (place_list (ks ++ (k ∷ []))).places
+unfolding put_at place_list
+one_more ks k room =
+    let front = number_bytes ks in
+    let rest : List ℕ = replicate (2 * (place_room - length (ks ++ (k ∷ [])))) 0 in
+    let two : 2 * (place_room - length ks) ≡ suc (suc (2 * (place_room - length (ks ++ (k ∷ []))))) =
+    omega (arith, length-append ks (k ∷ [])) in
+    let at : length front ≡ 2 * length ks = length-number_bytes ks in
+    rw (
+      two,
+      take_at front (0 ∷ 0 ∷ rest) (2 * length ks) at,
+      length-bytes_of 2 k,
+      ← at,
+      drop-append-add front (0 ∷ 0 ∷ rest) 2,
+      number_bytes_last ks k,
+    )
+    (sym (append_assoc front (bytes_of 2 k) rest))
 
-  pub noted_after : (met : ℕ) (numbers numbers' : List ℕ)
-      → met ≡ length ks
-      → numbers ≡ (place_list ks).places
-      → numbers' ≡ noted met k numbers
-      → numbers' ≡ (place_list (ks ++ (k ∷ []))).places
-  noted_after met numbers numbers' counted same more = more ∙ rw (counted, same) one_more
+pub counted_as : (ks : List ℕ) (l : PlaceList) → l ≡ place_list ks → l.count ≡ length ks
+unfolding place_list
+counted_as ks l e = ap (λ (q : PlaceList). q.count) e
+
+pub pushed : (ks : List ℕ) (k : ℕ) (l : PlaceList) (ps : List ℕ) → l ≡ place_list ks → l.count < place_room
+    → ps ≡ put_at (2 * l.count) (bytes_of 2 k) l.places
+    → record { places = ps; count = l.count + 1 } ≡ place_list (ks ++ (k ∷ []))
+unfolding place_list
+pushed ks k l ps e room p =
+    let counted = counted_as ks l e in
+    let same : l.places ≡ (place_list ks).places = ap (λ (q : PlaceList). q.places) e in
+    let more : ps ≡ (place_list (ks ++ (k ∷ []))).places =
+    p ∙ rw (counted, same) (one_more ks k (omega (arith, room, counted))) in
+    let n : l.count + 1 ≡ length (ks ++ (k ∷ [])) = omega (arith, counted, length-append ks (k ∷ [])) in
+    rw (more, n)

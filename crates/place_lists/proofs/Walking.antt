@@ -4,7 +4,7 @@ use mathlib.Core.Path.{◌≡◌, refl, sym, ap, ◌∙◌}
 use mathlib.Core.Bool.{Bool, true, false, cond, ◌||◌}
 use mathlib.Core.List.{List, [], ◌∷◌, ◌++◌, append-nil}
 use Rattle.std.specs.Prelude.{Option, None, Some}
-use Prim.Native.Nat.{ℕ, zero, suc, ◌+◌, ◌≤◌, ◌<◌}
+use Prim.Native.Nat.{ℕ, zero, suc, ◌+◌, ◌-◌, ◌≤◌, ◌<◌}
 use native.Mathlib.Nat.{le_refl, add-zero, zero-add}
 use native.Mathlib.Omega.{arith}
 use lib.Dec.{eqb, ltb}
@@ -17,16 +17,15 @@ use Rattle.rules.specs.Commands.{is_first, giving}
 use Rattle.rules.specs.declared.SlotNo.{SlotNo}
 use Rattle.rules.specs.declared.Place.{Place}
 use Rattle.rules.specs.declared.Place.TheVariants.{Erased, Spent, Live, PartWritten, Stray}
-use Rattle.rules.proofs.Lists.Tests.{by_cases, clash, and_true}
+use Rattle.rules.proofs.Lists.Tests.{by_cases, and_true}
 use Rattle.rules.proofs.Order.Ordering.{giving_names}
 use Rattle.rules.proofs.Order.Clearing.{named_starts}
 use Rattle.places.specs.Inner.Values.{place_value}
-use Rattle.places.proofs.Values.{place_turn}
+use Rattle.places.proofs.Values.{place_turn, place_down}
 pub use Rattle.places.proofs.Values.{length_places}
 use Rattle.place_walks.proofs.Free.{FreeFrom}
 use Rattle.boot_order.proofs.BootOrder.{member_last}
 use Rattle.walks.proofs.Joined.{or_with_false}
-use Rattle.place_lists.specs.Inner.Walked.{is_live}
 use Rattle.blocks.proofs.Noting.{Below}
 
 -- ---- the slot that comes first, from the last place down
@@ -46,39 +45,28 @@ order_head starts (v ∷ vs) (suc i) k o h =
     let (q, f) = add_head (slot_given (judged starts v)) k r in
     (q, ap (add_last (slot_given (judged starts v))) e ∙ f)
 
-not_live_gives_none : (j : Place) → is_live j ≡ false → slot_given j ≡ None
-unfolding is_live slot_given
+not_live_gives_none : (j : Place) → ((s : SlotNo) → j ≡ Live s → ⊥) → slot_given j ≡ None
+unfolding slot_given
 not_live_gives_none Erased t = refl
 not_live_gives_none Spent t = refl
-not_live_gives_none (Live s) t = absurd (clash true refl t)
+not_live_gives_none (Live s) t = absurd (t s refl)
 not_live_gives_none PartWritten t = refl
 not_live_gives_none (Stray v) t = refl
 
--- the slot of a live place
-live_slot : (j : Place) → is_live j ≡ true → (s : SlotNo) × (j ≡ Live s)
-unfolding is_live
-live_slot Erased t = absurd (clash false t refl)
-live_slot Spent t = absurd (clash false t refl)
-live_slot (Live s) t = (s, refl)
-live_slot PartWritten t = absurd (clash false t refl)
-live_slot (Stray v) t = absurd (clash false t refl)
-
-module _ (starts p : List ℕ) (k : ℕ) (within : k < place_count p) (above : order starts (drop (k + 1) (places p))
+module _ (starts p : List ℕ) (k : ℕ) (some : 0 < k) (within : k ≤ place_count p) (above : order starts (drop k (places p))
     ≡ []) where
-  pub first_goes : is_live (judged starts (place_value p k)) ≡ false → order starts (drop k (places p)) ≡ []
+  pub first_goes : ((s : SlotNo) → judged starts (place_value p (k - 1)) ≡ Live s → ⊥)
+      → order starts (drop (k - 1) (places p)) ≡ []
   unfolding order add_last
-  first_goes t = rw (place_turn p k within, not_live_gives_none (judged starts (place_value p k)) t) above
+  first_goes t =
+      rw (place_down p k some within, not_live_gives_none (judged starts (place_value p (k - 1))) t) above
 
-  first_of : (s : ℕ) (r : SlotNo) → judged starts (place_value p k) ≡ Live r
-      → is_first s (order starts (places p)) ≡ gives s (judged starts (place_value p k))
-  unfolding is_first order slot_given add_last member gives
-  first_of s r e =
-      let here : order starts (drop k (places p)) ≡ r.0 ∷ [] = rw (place_turn p k within, e, above) in
-      rw ((order_head starts (places p) k r.0 [] here).1, e)
-
-  pub first_found : (s : ℕ) → is_live (judged starts (place_value p k)) ≡ true
-      → is_first s (order starts (places p)) ≡ gives s (judged starts (place_value p k))
-  first_found s t = let (r, e) = live_slot (judged starts (place_value p k)) t in first_of s r e
+  pub first_found : (s r : SlotNo) → judged starts (place_value p (k - 1)) ≡ Live r
+      → is_first s.0 (order starts (places p)) ≡ eqb s.0 r.0
+  unfolding is_first order slot_given add_last member
+  first_found s r e =
+      let here : order starts (drop (k - 1) (places p)) ≡ r.0 ∷ [] = rw (place_down p k some within, e, above) in
+      rw ((order_head starts (places p) (k - 1) r.0 [] here).1)
 
 -- ---- the places that give a slot, from place 0 up
 
