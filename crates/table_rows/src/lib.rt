@@ -1,4 +1,4 @@
-// A table t, of which n entries count, with a row for a new slot behind them, or without one of their rows.
+// A table with a row for a new slot behind the counted ones, or without one of its rows.
 #![tactic(auto)]
 
 ghost use Rattle.std.specs.Prelude.{◌≡◌, ◌≤◌, ◌<◌, length};
@@ -11,28 +11,30 @@ use blocks::tables;
 use rules::EntryNo;
 
 // The row for a new slot: its name and zeros up to 16, its start, its length and flags 0. The count is one more.
-pub fn put_new_row(t: &[u8], n: usize, name: &[u8], start: u64, size: u64, room: &mut [u8])
-    requires { ((length t.now ≡ block_size) × ((n ≡ entry_count t.now) × (n < most_entries)))
+pub fn put_new_row(t: &[u8], name: &[u8], start: u64, size: u64, room: &mut [u8])
+    requires { ((length t.now ≡ block_size) × (entry_count t.now < most_entries))
         × ((length name.now ≤ 16) × ((size < 0x100000000) × (length room.old ≡ block_size))) }
     ensures { room.new ≡ with_new_row t.now name.now start size }
 {
+    let n = entries::entry_count(t);
     let at = entries::entry_offset(EntryNo(n));
     tables::put_name(t, EntryNo(n), name, room);
-    fields::stores::store64(room, at + 16, start);
-    fields::stores::store64(room, at + 24, size);
-    fields::stores::store32(room, 8, n as u64 + 1);
+    fields::stores::store::<8>(room, at + 16, start);
+    fields::stores::store::<8>(room, at + 24, size);
+    fields::stores::store::<4>(room, 8, n as u64 + 1);
 }
 
 // The rows after it close up, and every row behind the counted ones is zero. The count is one less.
-pub fn put_without_row(t: &[u8], n: usize, e: EntryNo, room: &mut [u8])
-    requires { ((length t.now ≡ block_size) × ((n ≡ entry_count t.now) × (n ≤ most_entries)))
-        × ((e.0 < n) × (length room.old ≡ block_size)) }
+pub fn put_without_row(t: &[u8], e: EntryNo, room: &mut [u8])
+    requires { ((length t.now ≡ block_size) × (entry_count t.now ≤ most_entries))
+        × ((e.0 < entry_count t.now) × (length room.old ≡ block_size)) }
     ensures { room.new ≡ without_row t.now e.0 }
 {
+    let n = entries::entry_count(t);
     let at = entries::entry_offset(e);
     let end = entries::entry_offset(EntryNo(n - 1)) + 32;
-    fields::stores::fill(room, 0);
+    room.fill(0);
     fields::stores::copy(room, 0, &t[..at]);
     fields::stores::copy(room, at, &t[at + 32..end]);
-    fields::stores::store32(room, 8, (n - 1) as u64);
+    fields::stores::store::<4>(room, 8, (n - 1) as u64);
 }

@@ -18,8 +18,8 @@ copy-requires c =
 pub returns : goal.returns
 returns c =
     let a = c.args in
-    c.store32.ensures
-    ∙ rw (c.copy-2.ensures, c.copy.ensures, c.fill.ensures, c.requires.1.1)
-    (row_left_out a.t.now a.n a.e.0 c.entry_offset-at.result (c.entry_offset-end.result + 32)
-    c.requires.0.0 c.requires.0.1.0 c.requires.0.1.1 c.requires.1.0
+    c.store.ensures
+    ∙ rw (c.copy-2.ensures, c.copy.ensures, c.fill.ensures.after (λ y same. same), c.requires.1.1)
+    (row_left_out a.t.now c.entry_count-n.result a.e.0 c.entry_offset-at.result (c.entry_offset-end.result + 32)
+    c.requires.0.0 c.entry_count-n.ensures (rw c.entry_count-n.ensures c.requires.0.1) (rw c.entry_count-n.ensures c.requires.1.0)
     c.entry_offset-at.ensures (omega (arith, c.entry_offset-end.ensures)))
