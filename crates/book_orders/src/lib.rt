@@ -1,7 +1,7 @@
 // The boot order as the book keeps it: by value, with a slot first, without one, or with one gone.
 #![tactic(auto)]
 
-ghost use Rattle.std.specs.Prelude.{◌≡◌, cond, [], ◌∷◌, min, leb, length};
+ghost use Rattle.std.specs.Prelude.{◌≡◌, ◌≤◌, cond, [], ◌∷◌, leb, length};
 ghost use Rattle.rules.specs.Lists.{same, without};
 ghost use Rattle.rules.specs.Book.{lowered};
 ghost use Rattle.walks.specs.Entries.{most_entries};
@@ -13,7 +13,8 @@ use rules::SlotNo;
 // A table has at most 127 slots, and one more may be put before them.
 pub const ROOM: usize = 128;
 
-// The slot numbers, first in the order first. Those past the count are not meant.
+// The slot numbers, first in the order first. Those past the count are not meant. No `ArrayVec`: orders are `Copy`, as the
+// book that holds one is.
 #[derive(Clone, Copy)]
 pub struct Order {
     pub row: [u32; ROOM],
@@ -27,20 +28,21 @@ pub enum Change {
     Lowered(SlotNo),
 }
 
+#[tactic(auto, unfolding(crate::specs::Orders::no_slots))]
 pub fn no_slots() -> [u32; ROOM]
     ensures { result ≡ no_slots }
 {
     [0; ROOM]
 }
 
-// How many of the row are meant.
-fn meant(order: Order) -> usize
-    ensures { result ≡ min order.count room }
-{
-    if order.count < ROOM {
-        return order.count;
+impl Order {
+    // Those that are meant.
+    #[tactic(auto, unfolding(crate::specs::Orders::slots_of))]
+    fn slots(&self) -> &[u32]
+        ensures { (result.now ≡ slots_of self.now) × (length result.now ≤ room) }
+    {
+        &self.row[..self.count.min(ROOM)]
     }
-    ROOM
 }
 
 // ---- into a row, from an index on: where that ends
@@ -50,9 +52,10 @@ fn put_slot(row: &mut [u32], at: usize, slot: SlotNo) -> usize
 {
     if at < row.len() {
         row[at] = slot.0;
-        return at + 1;
+        at + 1
+    } else {
+        at
     }
-    at
 }
 
 // A slot, unless it is the one to be left out.
@@ -60,19 +63,22 @@ fn put_other(row: &mut [u32], at: usize, slot: SlotNo, absent: SlotNo) -> usize
     ensures { Put row.old at (without absent.0 (slot.0 ∷ [])) row.new result }
 {
     if absent.0 == slot.0 {
-        return at;
+        at
+    } else {
+        put_slot(row, at, slot)
     }
-    put_slot(row, at, slot)
 }
 
 // A slot's number once another slot is gone.
+#[tactic(auto, unfolding(rules::specs::Book::lowered))]
 fn lowered(slot: SlotNo, gone: SlotNo) -> SlotNo
     ensures { result.0 ≡ lowered gone.0 slot.0 }
 {
     if gone.0 < slot.0 {
-        return SlotNo(slot.0 - 1);
+        SlotNo(slot.0 - 1)
+    } else {
+        slot
     }
-    slot
 }
 
 // What becomes of one slot.
@@ -90,10 +96,8 @@ fn put_all_kept(row: &mut [u32], at: usize, slots: &[u32], change: Change) -> us
     ensures { Put row.old at (kept change slots.now) row.new result }
 {
     let mut end = at;
-    let mut i = 0;
-    while i < slots.len() {
-        end = put_kept(row, end, SlotNo(slots[i]), change);
-        i += 1;
+    for slot in slots {
+        end = put_kept(row, end, SlotNo(*slot), change);
     }
     end
 }
@@ -104,14 +108,9 @@ fn put_all_kept(row: &mut [u32], at: usize, slots: &[u32], change: Change) -> us
 pub fn changed(order: Order, change: Change) -> Order
     ensures { slots_of result ≡ kept change (slots_of order) }
 {
-    let old = order.row;
-    let n = meant(order);
     let mut row = no_slots();
-    let count = put_all_kept(&mut row, 0, &old[..n], change);
-    Order {
-        row: row,
-        count: count,
-    }
+    let count = put_all_kept(&mut row, 0, order.slots(), change);
+    Order { row, count }
 }
 
 // The slot first, and then the others; the order as it was where it has more slots than a table.
@@ -119,42 +118,19 @@ pub fn with_first(order: Order, slot: SlotNo) -> Order
     ensures { slots_of result
         ≡ cond (leb (length (slots_of order)) most_entries) (slot.0 ∷ without slot.0 (slots_of order)) (slots_of order) }
 {
-    let old = order.row;
-    let n = meant(order);
-    if rules::MOST_ENTRIES < n {
+    let slots = order.slots();
+    if rules::MOST_ENTRIES < slots.len() {
         return order;
     }
     let mut row = no_slots();
     let at = put_slot(&mut row, 0, slot);
-    let count = put_all_kept(&mut row, at, &old[..n], Change::Without(slot));
-    Order {
-        row: row,
-        count: count,
-    }
+    let count = put_all_kept(&mut row, at, slots, Change::Without(slot));
+    Order { row, count }
 }
 
+#[tactic(auto, using(crate::proofs::Orders::same_pointwise))]
 pub fn same_order(a: Order, b: Order) -> bool
     ensures { result ≡ same (slots_of a) (slots_of b) }
 {
-    let one = a.row;
-    let other = b.row;
-    let n = meant(a);
-    let m = meant(b);
-    same_slots(&one[..n], &other[..m])
-}
-
-fn same_slots(a: &[u32], b: &[u32]) -> bool
-    ensures { result ≡ same a.now b.now }
-{
-    if a.len() != b.len() {
-        return false;
-    }
-    let mut i = 0;
-    while i < a.len() {
-        if a[i] != b[i] {
-            return false;
-        }
-        i += 1;
-    }
-    true
+    a.slots() == b.slots()
 }

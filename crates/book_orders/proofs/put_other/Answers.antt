@@ -6,5 +6,5 @@ use Rattle.book_orders.proofs.put_other.Goals as goal
 pub returns-then-absent-slot : goal.returns-then-absent-slot
 returns-then-absent-slot c = rw (left_out _ _ c.if-absent-slot.true) (put_nothing _ _)
 
-pub returns : goal.returns
-returns c = rw (not_left_out _ _ c.if-absent-slot.false) c.put_slot.ensures
+pub returns-else-absent-slot : goal.returns-else-absent-slot
+returns-else-absent-slot c = rw (not_left_out _ _ c.if-absent-slot.false) c.put_slot.ensures
