@@ -5,24 +5,23 @@ ghost use Rattle.std.specs.Prelude.{◌≡◌};
 ghost use Rattle.rules.specs.Copies.{dump_stands, standing_dump};
 
 // The dump that stands, the first if both do; an empty part of the first if neither does.
+#[tactic(auto, unfolding(rules::specs::Copies::standing_dump))]
 pub fn standing_dump<'a>(a: &'a [u8], b: &'a [u8]) -> &'a [u8]
     ensures { result.now ≡ standing_dump a.now b.now }
 {
     if dump_stands(a) {
-        return a;
+        a
+    } else if dump_stands(b) {
+        b
+    } else {
+        &a[..0]
     }
-    if dump_stands(b) {
-        return b;
-    }
-    &a[..0]
 }
 
 // A dump of the right length whose fields are right.
+#[tactic(auto, unfolding(rules::specs::Copies::dump_stands))]
 fn dump_stands(dump: &[u8]) -> bool
     ensures { result ≡ dump_stands dump.now }
 {
-    if dump.len() != rules::BLOCK_SIZE {
-        return false;
-    }
-    places::block_stands(dump)
+    dump.len() == rules::BLOCK_SIZE && places::block_stands(dump)
 }
