@@ -12,7 +12,6 @@ ghost use Rattle.job_parts.specs.Inner.Lent.{steps_in};
 use super::{Kind, Plan};
 use part_steps::into_places::{IntoPlaces, PLACES_SIZE};
 use part_steps::rewriting::Rewriting;
-use part_steps::windows;
 use part_steps::windows::Window;
 use rules::Step;
 use std::marker::Model;
@@ -143,7 +142,7 @@ impl<'a> Parts<'a> {
         ensures { image.new ≡ steps granule (chosen window self.now) image.old }
     {
         self.first.run(image, granule, window);
-        let rest = windows::beyond(window, self.first.step_count());
+        let rest = window.beyond(self.first.step_count());
         self.second.run(image, granule, rest);
     }
 

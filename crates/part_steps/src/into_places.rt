@@ -7,8 +7,8 @@ ghost use Rattle.rules.specs.Cuts.{inside};
 ghost use Rattle.part_steps.specs.Parts.{place_room, first_step};
 ghost use Rattle.part_steps.specs.Inner.Windows.{highest_address, programs_inside, chosen, beyond};
 
+use super::programs;
 use super::windows::Window;
-use super::{programs, windows};
 use rules::Step;
 use std::marker::Model;
 
@@ -64,7 +64,7 @@ fn do_place(image: &mut [u8], at: usize, value: &[u8; 8], window: Window) -> Win
 {
     if (window.from == 0) & (8 <= window.n) {
         device::program_eight(image, at, value);
-        return windows::beyond(window, 8);
+        return window.beyond(8);
     }
     programs::do_range(image, at, value, window)
 }

@@ -5,7 +5,6 @@ ghost use Rattle.rules.specs.Steps.{steps, programs};
 ghost use Rattle.part_steps.specs.Parts.{first_step};
 ghost use Rattle.part_steps.specs.Inner.Windows.{highest_address, programs_inside, chosen, beyond};
 
-use super::windows;
 use super::windows::Window;
 use fields::bounds;
 use rules::Step;
@@ -19,7 +18,7 @@ pub fn do_range(image: &mut [u8], at: usize, given: &[u8], window: Window) -> Wi
 {
     let size = given.len();
     let from = window.from;
-    let rest = windows::beyond(window, size);
+    let rest = window.beyond(size);
     if size <= from {
         return rest;
     }

@@ -7,8 +7,8 @@ ghost use Rattle.rules.specs.declared.Step.TheVariants.{Erase};
 ghost use Rattle.part_steps.specs.Parts.{first_step};
 ghost use Rattle.part_steps.specs.Inner.Windows.{highest_address, erase_inside, rewrite_inside, chosen, beyond};
 
+use super::programs;
 use super::windows::Window;
-use super::{programs, windows};
 use fields::bounds;
 use rules::Step;
 use std::marker::Model;
@@ -44,7 +44,7 @@ fn do_erase(image: &mut [u8], at: usize, granule: usize, window: Window) -> Wind
     ensures value { result ≡ beyond 1 window }
     ensures image_after { image.new ≡ steps granule (chosen window (Erase at ∷ [])) image.old }
 {
-    let rest = windows::beyond(window, 1);
+    let rest = window.beyond(1);
     if (0 < window.from) | (window.n == 0) {
         return rest;
     }

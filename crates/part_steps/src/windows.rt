@@ -8,13 +8,15 @@ pub struct Window {
     pub n: usize,
 }
 
-// What of a window lies beyond so many steps.
-#[tactic(auto, unfolding(crate::specs::Inner::Windows::beyond))]
-pub fn beyond(window: Window, size: usize) -> Window
-    ensures { result ≡ beyond size window }
-{
-    Window {
-        from: window.from.saturating_sub(size),
-        n: window.n.saturating_sub(size.saturating_sub(window.from)),
+impl Window {
+    // What of it lies beyond so many steps.
+    #[tactic(auto, unfolding(crate::specs::Inner::Windows::beyond))]
+    pub fn beyond(self, size: usize) -> Window
+        ensures { result ≡ beyond size self }
+    {
+        Window {
+            from: self.from.saturating_sub(size),
+            n: self.n.saturating_sub(size.saturating_sub(self.from)),
+        }
     }
 }
