@@ -7,12 +7,6 @@ use Rattle.job_fields.proofs.job_in.Goals as goal
 pub returns-in_default : goal.returns-in_default
 returns-in_default c = none_decoded c.args.bytes.now (sym c.plan_in.ensures.plan ∙ c.in_default.is)
 
-pub invariant_of-result : goal.invariant_of-result
-invariant_of-result c = record {
-  first = record { block = c.part.ensures.1; places = c.part-3.ensures.1; value = c.part-4.ensures.1 };
-  second = record { block = c.part-2.ensures.1; places = c.part-3.ensures.1; value = c.part-4.ensures.1 };
-}
-
 pub returns : goal.returns
 unfolding job_from
 returns c =

@@ -5,10 +5,6 @@ use Rattle.job_bytes.specs.Form.{block_over}
 use Rattle.job_bytes.proofs.Filling.{put_own}
 use Rattle.job_bytes.proofs.encoding.store_block.Goals as goal
 
-pub copy_block-requires : goal.copy_block-requires
-copy_block-requires c =
-    (c.requires.1 c.in-Rewrite.is, c.requires.0)
-
 pub returns-in-Nothing : goal.returns-in-Nothing
 unfolding block_over
 returns-in-Nothing c =
