@@ -1,7 +1,7 @@
 // A pointer block: whether it stands, the values of its places, and what a place holds by a table.
 #![tactic(auto)]
 
-ghost use Rattle.std.specs.Prelude.{◌≡◌, ◌+◌, ◌-◌, ◌/◌, ◌≤◌, ◌<◌, length};
+ghost use Rattle.std.specs.Prelude.{◌≡◌, ◌+◌, ◌-◌, ◌*◌, ◌/◌, ◌≤◌, ◌<◌, length};
 ghost use Rattle.rules.specs.Bytes.{block, block_size};
 ghost use Rattle.rules.specs.Table.{starts};
 ghost use Rattle.rules.specs.Pointers.{place_offset, place_count, offset_right, fits_room, pointers_stand, judged};
@@ -69,8 +69,11 @@ impl<'a> PointerBlock<'a> {
     }
 
     // Where the places begin.
+    #[tactic(auto, using(crate::proofs::Values::places_inside))]
     pub fn offset(&self) -> usize
-        ensures { result ≡ place_offset self.now }
+        ensures offset { result ≡ place_offset self.now }
+        ensures inside { place_offset self.now + 8 * place_count self.now ≤ block_size }
+        ensures whole { length self.now ≡ block_size }
     {
         place_offset(self.bytes)
     }

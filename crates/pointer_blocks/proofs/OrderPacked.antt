@@ -1,20 +1,23 @@
 -- The pointers of an order without a slot, put one by one from the order's end. Assumes nothing.
 use mathlib.Core.Path.{◌≡◌, refl, sym, ap, ◌∙◌}
 use mathlib.Core.List.{List, [], ◌∷◌, ◌++◌, map, reverse, reverse-cons, map-append}
-use Prim.Native.Nat.{ℕ, zero, suc, ◌-◌, ◌≤◌, ◌<◌}
-use native.Mathlib.Nat.{le_of_suc-le-suc, not-suc-le-zero}
+use Prim.Native.Nat.{ℕ, suc, ◌-◌, ◌≤◌, ◌<◌}
 use native.Mathlib.Omega.{arith}
-use borrow.Author.Tests.{eq-eqb, ne_eqb}
+use mathlib.Core.Bool.{true}
+use lib.Dec.{leb, ltb}
+use borrow.Author.Tests.{eq-eqb, ne_eqb, le-leb, leb-true}
 use lib.ListN.{length, get_or, take, drop, length-map}
 use lib.Seq.{drop-cons, drop-length, take-append_seam}
 use Rattle.rules.specs.Lists.{without}
-use Rattle.rules.specs.Table.{entry_count, entries, slots, slot_starts, starts}
-use Rattle.rules.specs.Pointers.{order}
-use Rattle.rules.specs.Commands.{pointers_of}
-use Rattle.rules.proofs.Order.OnceEach.{Once, once_order, once_first, once_length, order-length}
-use Rattle.slots.proofs.RowsOf.{few_slots_counted}
-use Rattle.boot_order.proofs.BootOrder.{order_fits}
-use Rattle.pointer_blocks.specs.Inner.Packed.{SlotNumbers}
+use Rattle.rules.specs.Table.{entries, slots, slot_starts, starts}
+use Rattle.rules.specs.Pointers.{place_count, places, order}
+use Rattle.rules.specs.Copies.{order_by}
+use Rattle.rules.specs.Commands.{pointers_of, enough_places}
+use Rattle.rules.proofs.Pointers.Filling.{length-pointers_of}
+use Rattle.places.proofs.Values.{length_places}
+use Rattle.rules.proofs.Order.OnceEach.{once_order, once_first, once_length, order-length}
+use Rattle.slots.proofs.RowsOf.{few_slots}
+use Rattle.boot_order.proofs.BootOrder.{order_by_fits}
 
 -- ---- one pointer more
 
@@ -50,34 +53,47 @@ module _ (k : ℕ) (starts o : List ℕ) (i : ℕ) (above : 0 < i) (within : i �
       rw (next_of_order, ne_eqb k (get_or o (i - 1) 0) (λ e. other (sym e)))
       (pointers_first (get_or o (i - 1) 0) starts (without k (drop i o)))
 
--- ---- the boot order as a row of slot numbers
+-- ---- how many slots the boot order has
 
-below_at : (n : ℕ) (o : List ℕ) (i : ℕ) → Once n o → i < length o → get_or o i 0 < n
-below_at n [] i h l = absurd (not-suc-le-zero l)
-below_at n (x ∷ o) zero (_, b, _) l = b
-below_at n (x ∷ o) (suc i) (_, _, h) l = below_at n o i h (le_of_suc-le-suc l)
-
-module _ (t vs : List ℕ) where
+module _ (t p : List ℕ) where
   same_length : length (starts t) ≡ length (slots (entries t))
   unfolding starts slot_starts
   same_length = simp length-map
 
-  pub few_in_order : length (order (starts t) vs) ≤ entry_count t
-  unfolding starts
-  few_in_order = omega (arith, order_fits (entries t) vs, few_slots_counted t)
+  pub order_in_entries : length (order_by t p) ≤ length (entries t)
+  order_in_entries = omega (arith, order_by_fits t p, few_slots (entries t))
 
-  pub numbers_of_order : SlotNumbers (length (slots (entries t))) (length vs) (order (starts t) vs)
-  numbers_of_order = record {
-    few = order-length (starts t) vs;
-    below = λ i l. rw (← same_length) (below_at (length (starts t)) (order (starts t) vs) i (once_order (starts t) vs) l);
-  }
+  pub order_in_places : length (order_by t p) ≤ place_count p
+  unfolding order_by
+  order_in_places = omega (arith, order-length (starts t) (places p), length_places p)
 
-  -- there is room for a slot in front
-  pub room_for_first : (k : ℕ) → k < length (slots (entries t)) → length (without k (order (starts t) vs)) < entry_count t
-  room_for_first k there =
-      let most = once_length (length (starts t)) (k ∷ without k (order (starts t) vs))
-      (once_first (length (starts t)) k (order (starts t) vs) (omega (arith, same_length)) (once_order (starts t) vs)) in
-      omega (arith, most, same_length, few_slots_counted t)
+  module _ (k : ℕ) where
+    -- there is room for a slot in front
+    pub enough_by_entries : k < length (slots (entries t)) → length (entries t) ≤ place_count p
+        → enough_places (starts t) p k ≡ true
+    unfolding enough_places
+    enough_by_entries there few =
+        let o = without k (order (starts t) (places p)) in
+        let most = once_length (length (starts t)) (k ∷ o)
+        (once_first (length (starts t)) k (order (starts t) (places p)) (omega (arith, same_length))
+        (once_order (starts t) (places p))) in
+        le-leb (length (k ∷ o)) (place_count p) (omega (arith, most, same_length, few_slots (entries t)))
+
+    module _ (n : ℕ) (counted : n ≡ length (pointers_of (starts t) (without k (order_by t p)))) where
+      others_counted : suc n ≡ length (k ∷ without k (order (starts t) (places p)))
+      unfolding order_by
+      others_counted =
+          ap suc (counted ∙ length-pointers_of (starts t) (without k (order (starts t) (places p))))
+
+      pub enough_by_count : ltb n (place_count p) ≡ enough_places (starts t) p k
+      unfolding enough_places
+      enough_by_count = ap (λ m. leb m (place_count p)) others_counted
+
+      pub place_left : enough_places (starts t) p k ≡ true → n < place_count p
+      unfolding enough_places
+      place_left enough =
+          rw (← others_counted) at
+          (leb-true (length (k ∷ without k (order (starts t) (places p)))) (place_count p) enough)
 
 -- an order at the front of a row
 pub front_of_row : (o row after : List ℕ) (len : ℕ) → len ≡ length o → after ≡ o ++ drop (length o) row
