@@ -22,10 +22,3 @@ pub fn program(image: &mut [u8], at: usize, given: &[u8])
         image[at + i] &= *byte;
     }
 }
-
-pub fn program_eight(image: &mut [u8], at: usize, given: &[u8])
-    requires { (length given.now ≡ 8) × (at + 8 ≤ length image.old) }
-    ensures { (g : ℕ) → image.new ≡ steps g (programs at given.now) image.old }
-{
-    program(image, at, given);
-}

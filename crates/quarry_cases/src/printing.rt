@@ -74,7 +74,7 @@ fn value_at(image: &[u8], at: usize) -> u64 {
     if image.len() - 8 < at {
         return 0;
     }
-    fields::le64(image, at)
+    fields::number::<8>(image, at)
 }
 
 // What a place of the pointer block at an address holds.
@@ -94,7 +94,7 @@ fn place_at(image: &[u8], block: usize, place: PlaceNo) -> usize {
     if rules::MOST_PLACES <= place.0 {
         return 0;
     }
-    block + fields::le32(image, block + 0x10) as usize + 8 * place.0
+    block + fields::number::<4>(image, block + 0x10) as usize + 8 * place.0
 }
 
 // Where the entry of a number starts, by the table at 0x4000.

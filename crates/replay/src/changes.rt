@@ -3,8 +3,7 @@ ghost use Rattle.std.specs.Prelude.{◌+◌, ◌≤◌, ◌<◌, length};
 
 use super::desk;
 use super::desk::Desk;
-use fields::bounds::{min, part_of};
-use fields::stores;
+use fields::bounds::part_of;
 use rules::Setting;
 use script_lines::Change;
 use std::io;
@@ -38,7 +37,7 @@ fn new_image<W: Write>(
     if room.len() < length {
         return desk::error(desk, out);
     }
-    stores::fill(&mut room[0..length], byte);
+    room[..length].fill(byte);
     Ok(desk::without_job(desk::with_length(desk, length)))
 }
 
@@ -51,8 +50,8 @@ fn new_length<W: Write>(
     if room.len() < length {
         return desk::error(desk, out);
     }
-    let kept = min(desk.length, length);
-    stores::fill(&mut room[kept..length], ERASED);
+    let kept = desk.length.min(length);
+    room[kept..length].fill(ERASED);
     Ok(desk::with_length(desk, length))
 }
 
@@ -72,14 +71,11 @@ fn put<W: Write>(
     at: usize,
     word: &[u8],
 ) -> io::Result<Desk> {
-    let length = min(desk.length, room.len());
-    let part = part_of(length, at, word.len() / 2);
-    if !part.right {
-        return desk::error(desk, out);
+    let length = desk.length.min(room.len());
+    match part_of(length, at, word.len() / 2) {
+        Some(part) => answer_parts::hex::decode(word, &mut room[part]),
+        None => return desk::error(desk, out),
     }
-    let from = part.from;
-    let to = part.to;
-    answer_parts::hex::decode(word, &mut room[from..to]);
     Ok(desk)
 }
 
@@ -91,7 +87,7 @@ fn copy<W: Write>(
     to: usize,
     n: usize,
 ) -> io::Result<Desk> {
-    let length = min(desk.length, room.len());
+    let length = desk.length.min(room.len());
     if length < n {
         return desk::error(desk, out);
     }

@@ -1,7 +1,6 @@
 // Pieces of standard input, made into lines.
 use super::desk::Desk;
 use super::{changes, desk, questions, starts, steps};
-use fields::bounds::min;
 use script_lines::Line;
 use std::io;
 use std::io::{Read, Write};
@@ -43,7 +42,7 @@ fn finish<W: Write>(desk: Desk, out: &mut W, room: &mut [u8], line: &[u8]) -> io
     if desk.used == 0 {
         return Ok(desk::end(desk));
     }
-    let end = min(desk.used, line.len());
+    let end = desk.used.min(line.len());
     Ok(desk::end(do_line(desk, out, room, &line[0..end])?))
 }
 
@@ -76,7 +75,7 @@ fn take_part<W: Write>(
     part: &[u8],
     whole: bool,
 ) -> io::Result<Desk> {
-    let used = min(desk.used, line.len());
+    let used = desk.used.min(line.len());
     if line.len() - used < part.len() {
         return desk::error(desk, out);
     }
@@ -89,7 +88,7 @@ fn take_part<W: Write>(
 }
 
 fn store(to: &mut [u8], bytes: &[u8]) {
-    let n = min(to.len(), bytes.len());
+    let n = to.len().min(bytes.len());
     for i in 0..n {
         to[i] = bytes[i];
     }

@@ -1,13 +1,12 @@
 // Answers on standard output, each a line, but for the listing.
 use answer_parts::put_number;
-use fields::bounds::min;
 use rules::{EntryNo, Fault, Refusal, Setting, SlotInfo, SlotNo};
 use std::io;
 use std::io::Write;
 
 // The front of a buffer.
 fn write_front<W: Write>(out: &mut W, line: &[u8], end: usize) -> io::Result<()> {
-    let n = min(end, line.len());
+    let n = end.min(line.len());
     out.write_all(&line[0..n])
 }
 

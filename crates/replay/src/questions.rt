@@ -1,7 +1,7 @@
 // Lines that ask and change nothing. Each function answers whether the line was right.
 use super::desk::Desk;
 use super::printing;
-use fields::bounds::{min, part_of};
+use fields::bounds::part_of;
 use infos::Known;
 use order_lists::Listed;
 use rules::{Setting, SlotNo};
@@ -11,7 +11,7 @@ use std::io::Write;
 
 pub fn ask<W: Write>(desk: Desk, out: &mut W, room: &[u8], asked: Question) -> io::Result<bool> {
     let setting = desk.setting;
-    let length = min(desk.length, room.len());
+    let length = desk.length.min(room.len());
     let image = &room[0..length];
     match asked {
         Question::Order(places) => tell_order(out, setting, image, places),
@@ -45,12 +45,12 @@ fn tell_order_in<W: Write>(
     places: usize,
     row: &mut [u32],
 ) -> io::Result<bool> {
-    let n = min(places, row.len());
+    let n = places.min(row.len());
     let listed = reading::order_list(image, setting, &mut row[0..n]);
     match listed {
         Listed::Refused(why) => printing::print_refused(out, why)?,
         Listed::Count(count) => {
-            let end = min(count, row.len());
+            let end = count.min(row.len());
             printing::print_order(out, &row[0..end])?;
         }
     }
@@ -80,13 +80,10 @@ fn tell_slot<W: Write>(
 }
 
 fn tell_bytes<W: Write>(out: &mut W, image: &[u8], at: usize, n: usize) -> io::Result<bool> {
-    let part = part_of(image.len(), at, n);
-    if !part.right {
+    let Some(part) = part_of(image.len(), at, n) else {
         return Ok(false);
-    }
-    let from = part.from;
-    let to = part.to;
-    printing::print_bytes(out, &image[from..to])?;
+    };
+    printing::print_bytes(out, &image[part])?;
     Ok(true)
 }
 
@@ -103,16 +100,10 @@ fn tell_dump<W: Write>(
     b: usize,
     n: usize,
 ) -> io::Result<bool> {
-    let one = part_of(image.len(), a, m);
-    let other = part_of(image.len(), b, n);
-    if !(one.right & other.right) {
+    let (Some(one), Some(other)) = (part_of(image.len(), a, m), part_of(image.len(), b, n)) else {
         return Ok(false);
-    }
-    let one_from = one.from;
-    let one_to = one.to;
-    let other_from = other.from;
-    let other_to = other.to;
-    let dump = dumps::standing_dump(&image[one_from..one_to], &image[other_from..other_to]);
+    };
+    let dump = dumps::standing_dump(&image[one], &image[other]);
     printing::print_dump(out, dump.len(), answer_parts::sum::fnv1a(dump))?;
     Ok(true)
 }

@@ -3,7 +3,6 @@ use super::desk::Desk;
 use super::{desk, printing};
 use commands::Command;
 use drafts::Outcome;
-use fields::bounds::min;
 use std::io;
 use std::io::Write;
 
@@ -16,7 +15,7 @@ pub fn start<W: Write>(
     name: &[u8],
 ) -> io::Result<Desk> {
     let setting = desk.setting;
-    let length = min(desk.length, room.len());
+    let length = desk.length.min(room.len());
     let begun = commands::start(&room[0..length], setting, command, name);
     let outcome = begun.answer;
     match outcome {
@@ -57,7 +56,7 @@ fn start_with<W: Write>(
     word: &[u8],
     name: &mut [u8],
 ) -> io::Result<Desk> {
-    let n = min(word.len() / 2, name.len());
+    let n = (word.len() / 2).min(name.len());
     answer_parts::hex::decode(word, &mut name[0..n]);
     start(desk, out, room, command, &name[0..n])
 }
