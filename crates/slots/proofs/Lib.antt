@@ -1,1 +1,2 @@
 pub mod RowsOf
+mod Steps

@@ -3,6 +3,10 @@
 use Rattle.std.proofs.Common.{◌≡◌, refl, sym, ap, ◌∙◌, List, [], ◌∷◌, ℕ, zero, suc, ◌+◌, ◌-◌, ◌≤◌, ◌<◌, arith, length, take, take_all, length-take-le}
 use native.Mathlib.Nat.{le_of_suc-le-suc, not-suc-le-zero}
 use borrow.Author.Tests.{ne_eqb}
+use lib.Dec.{leb, ltb}
+use borrow.Author.Tests.{leb-true, ltb-true}
+use Rattle.std.proofs.Common.{Fits, w32, w64, true, ◌&&◌}
+use Rattle.rules.proofs.Lists.Tests.{and_true}
 use Rattle.rules.specs.Lists.{keep}
 use Rattle.rules.specs.Table.{Entry, entry_count, entries, is_slot, slots}
 use Rattle.rules.specs.Readers.{slot_row}
@@ -87,3 +91,61 @@ module _ (t : List ℕ) (es : List Entry) (from before : ℕ) (h : HasRows t es 
   total =
       let all = counted (length es) from_within (omega arith) in
       (from_within, omega (arith, all_slots), omega (arith, few_before (length es) (omega arith)))
+
+-- ---- as the methods of a table ask: t' is the table, t its bytes
+
+module _ {t t' : List ℕ} {es : List Entry} {from before : ℕ} (h : HasRows t es from before) (is : t ≡ t') where
+  as_table : HasRows t' es from before
+  as_table = rw is at h
+
+  pub slot_reckoned : (e : ℕ) → e < length (entries t') → from ≤ e → before + (e - from) ≡ slots_before t' e
+  slot_reckoned e low high = sym (counted t' es from before as_table e high (omega (arith, ap length as_table.counted)))
+
+  slot_few : (e : ℕ) → e < length (entries t') → from ≤ e → before + (e - from) ≤ 127
+  slot_few e low high =
+      omega (
+        arith,
+        slot_reckoned e low high,
+        ap length as_table.counted,
+        few_entries t' es from before as_table,
+        few_before t' es from before as_table e (omega (arith, ap length as_table.counted)),
+      )
+
+  pub slot_fits : (e : ℕ) → e < length (entries t') → from ≤ e → Fits w32 (before + (e - from))
+  slot_fits e low high = omega (arith, slot_few e low high)
+
+  pub slot_sum_fits : (e : ℕ) → e < length (entries t') → from ≤ e → Fits w64 (before + (e - from))
+  slot_sum_fits e low high = omega (arith, slot_few e low high)
+
+  pub slot_counted : (e n : ℕ) (lower : List Entry) → lower ≡ take e es → n ≡ length (slots lower) → n ≡ slots_before t' e
+  slot_counted e n lower those q = q ∙ rw those (sym (slots_to t' es from before as_table e))
+
+  pub total_reckoned : (n : ℕ) → n ≡ length es → before + (n - from) ≡ length (slots (entries t'))
+  total_reckoned n q = let (low, sum, few) = total t' es from before as_table in rw q sum
+
+  pub total_few : (n : ℕ) → n ≡ length es → before + (n - from) ≤ length (entries t')
+  total_few n q = let (low, sum, few) = total t' es from before as_table in omega (arith, ap length as_table.counted)
+
+  row_there : (k n : ℕ) → leb before k && ltb k n ≡ true → n ≡ length (slots (entries t'))
+      → (slot_row (entries t') k ≡ from + (k - before)) × (from + (k - before) < length es)
+  row_there k n there q =
+      let (low, high) = and_true (leb before k) (ltb k n) there in
+      last_row t' es from before as_table k (leb-true before k low) (omega (arith, ltb-true k n high))
+
+  pub row_reckoned : (k n : ℕ) → leb before k && ltb k n ≡ true → n ≡ length (slots (entries t'))
+      → from + (k - before) ≡ slot_row (entries t') k
+  row_reckoned k n there q = sym (row_there k n there q).0
+
+  pub row_within : (k n : ℕ) → leb before k && ltb k n ≡ true → n ≡ length (slots (entries t'))
+      → slot_row (entries t') k < length (entries t')
+  row_within k n there q = omega (arith, row_there k n there q, ap length as_table.counted)
+
+  pub row_fits : (k n : ℕ) → leb before k && ltb k n ≡ true → n ≡ length (slots (entries t')) → Fits w64 (from + (k - before))
+  row_fits k n there q = omega (arith, row_there k n there q, few_entries t' es from before as_table)
+
+module _ {t : List ℕ} {es : List Entry} {from before : ℕ} (h : HasRows t es from before) where
+  pub total_fits : (n : ℕ) → n ≡ length es → Fits w64 (before + (n - from))
+  total_fits n q = omega (arith, total t es from before h, few_entries t es from before h)
+
+  pub total_below : (n : ℕ) → n ≡ length es → from ≤ n
+  total_below n q = omega (arith, (total t es from before h).0)

@@ -45,6 +45,7 @@ pub fn count_slots(entries: &Entries<'_>) -> usize
 }
 
 // The first slot that starts there.
+#[tactic(auto, using(crate::proofs::Steps::start_here, crate::proofs::Steps::start_goes, crate::proofs::Steps::start_over))]
 pub fn find_slot(entries: &Entries<'_>, start: u64) -> Option<EntryNo>
     ensures { Found entries.now (find (slot_from start) entries.now) result }
 {
@@ -57,6 +58,7 @@ pub fn find_slot(entries: &Entries<'_>, start: u64) -> Option<EntryNo>
 }
 
 // The number of the entry from which on to look for the slot, found four entries at a time: none before it starts there.
+#[tactic(auto, using(crate::proofs::Steps::none_starts))]
 fn none_before(entries: &Entries<'_>, start: u64) -> usize
     ensures found { find (slot_from start) entries.now
         ≡ result + find (slot_from start) (drop result entries.now) }
@@ -74,6 +76,7 @@ fn none_before(entries: &Entries<'_>, start: u64) -> usize
 }
 
 // The entry of a slot.
+#[tactic(auto, using(crate::proofs::Steps::row_here, crate::proofs::Steps::row_inside, crate::proofs::Steps::row_goes, crate::proofs::Steps::row_over, crate::proofs::Steps::enough_left))]
 pub fn slot_row(entries: &Entries<'_>, slot: SlotNo) -> Option<EntryNo>
     ensures { Found entries.now (slot_row entries.now slot.0) result }
 {
@@ -89,6 +92,7 @@ pub fn slot_row(entries: &Entries<'_>, slot: SlotNo) -> Option<EntryNo>
 }
 
 // The lowest number from which on all entries are slots; the number of entries where the last is none.
+#[tactic(auto, using(crate::proofs::Steps::last_start, crate::proofs::Steps::last_here, crate::proofs::Steps::last_further, crate::proofs::Steps::last_over))]
 fn last_from(entries: &Entries<'_>) -> EntryNo
     ensures found { result.0 ≡ last_from is_slot entries.now }
     ensures within { result.0 ≤ length entries.now }
@@ -157,6 +161,7 @@ impl<'a> Table<'a> {
     }
 
     // The number of the slot at an entry: as many slots come before it.
+    #[tactic(auto, using(crate::proofs::RowsOf::slot_reckoned, crate::proofs::RowsOf::slot_fits, crate::proofs::RowsOf::slot_sum_fits, crate::proofs::RowsOf::slot_counted))]
     pub fn slot_at(&self, e: EntryNo) -> SlotNo
         requires { e.0 < length (entries self.now) }
         ensures { result.0 ≡ slots_before self.now e.0 }
@@ -169,6 +174,7 @@ impl<'a> Table<'a> {
     }
 
     // How many slots there are: those before, and the entries from there on.
+    #[tactic(auto, using(crate::proofs::RowsOf::total_reckoned, crate::proofs::RowsOf::total_few, crate::proofs::RowsOf::total_fits, crate::proofs::RowsOf::total_below))]
     pub fn slot_total(&self) -> usize
         ensures { (result ≡ length (slots (entries self.now))) × (result ≤ length (entries self.now)) }
     {
@@ -176,6 +182,7 @@ impl<'a> Table<'a> {
     }
 
     // The entry of a slot.
+    #[tactic(auto, using(crate::proofs::RowsOf::row_reckoned, crate::proofs::RowsOf::row_within, crate::proofs::RowsOf::row_fits))]
     pub fn row_of(&self, slot: SlotNo) -> Option<EntryNo>
         ensures { Found (entries self.now) (slot_row (entries self.now) slot.0) result }
     {
