@@ -11,6 +11,7 @@ use rules::PlaceNo;
 use slots::Table;
 
 // How many slots the order has.
+#[tactic(auto, using(crate::proofs::BootOrder::none_met, crate::proofs::BootOrder::none_more, crate::proofs::BootOrder::one_more, crate::proofs::BootOrder::counted_met, crate::proofs::BootOrder::counted_walked))]
 pub fn order_length(t: &Table<'_>, p: &PointerBlock<'_>) -> usize
     ensures { result ≡ length (order_by t.now p.now) }
 {
