@@ -1,22 +1,9 @@
 // Bounds and parts, by sums that never wrap.
-ghost use Rattle.std.specs.Prelude.{◌≡◌, ◌+◌, ◌-◌, ◌≤◌, min, leb};
+ghost use Rattle.std.specs.Prelude.{◌≡◌, ◌+◌, ◌≤◌, leb};
 ghost use Rattle.std.specs.Option.{IfSome};
 ghost use Rattle.fields.specs.Bounds.{part};
 
 use std::ops::Range;
-
-pub fn min(a: usize, b: usize) -> usize
-    ensures { result ≡ min a b }
-{
-    a.min(b)
-}
-
-// The difference, 0 where there is none.
-pub fn saturating_sub(a: usize, b: usize) -> usize
-    ensures { result ≡ a - b }
-{
-    a.saturating_sub(b)
-}
 
 // A range ends at a bound or before it: exact, where start + size would wrap.
 pub fn ends_by(start: u64, size: u64, bound: u64) -> bool

@@ -5,7 +5,7 @@ ghost use Rattle.std.specs.Prelude.{◌≡◌, ◌+◌, ◌*◌, ◌^◌, ◌≤
 ghost use Rattle.rules.specs.Bytes.{field, block, block_size};
 ghost use Rattle.walks.specs.Four.{one_of_four};
 
-pub mod bounds; // differences, bounds and parts
+pub mod bounds; // bounds and parts
 pub mod stores; // numbers and bytes into lent bytes
 
 // The field of N bytes at an offset.
@@ -16,20 +16,6 @@ pub fn number<const N: usize>(s: &[u8], at: usize) -> u64
     let mut bytes = [0; 8];
     bytes[..N].copy_from_slice(&s[at..at + N]);
     u64::from_le_bytes(bytes)
-}
-
-pub fn le32(s: &[u8], at: usize) -> u64
-    requires { at + 4 ≤ length s.now }
-    ensures { (result ≡ field at 4 s.now) × (result < 0x100000000) }
-{
-    number::<4>(s, at)
-}
-
-pub fn le64(s: &[u8], at: usize) -> u64
-    requires { at + 8 ≤ length s.now }
-    ensures { result ≡ field at 8 s.now }
-{
-    number::<8>(s, at)
 }
 
 // One of four fields of 8 bytes has the value: the first at an offset, each of the others so far behind the one before.
@@ -54,11 +40,4 @@ pub fn block_at(image: &[u8], at: usize) -> &[u8]
     ensures { (result.now ≡ block image.now at) × (length result.now ≡ block_size) }
 {
     &image[at..at + rules::BLOCK_SIZE]
-}
-
-pub fn le16(s: &[u8], at: usize) -> u64
-    requires { at + 2 ≤ length s.now }
-    ensures { (result ≡ field at 2 s.now) × (result < 0x10000) }
-{
-    number::<2>(s, at)
 }

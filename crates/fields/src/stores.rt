@@ -1,5 +1,5 @@
-// Little-endian numbers stored into lent bytes, lent bytes copied, and all bytes made the same.
-ghost use Rattle.std.specs.Prelude.{◌≡◌, ◌+◌, ◌≤◌, length, replicate};
+// Little-endian numbers stored into lent bytes, and lent bytes copied.
+ghost use Rattle.std.specs.Prelude.{◌≡◌, ◌+◌, ◌≤◌, length};
 ghost use Rattle.rules.specs.Bytes.{bytes_of, block_size};
 ghost use Rattle.rules.specs.Final.{put_at};
 
@@ -11,27 +11,6 @@ pub fn store<const N: usize>(out: &mut [u8], at: usize, v: u64)
     ensures { out.new ≡ put_at at (bytes_of N v) out.old }
 {
     copy(out, at, &v.to_le_bytes()[..N]);
-}
-
-pub fn store64(out: &mut [u8], at: usize, v: u64)
-    requires { at + 8 ≤ length out.old }
-    ensures { out.new ≡ put_at at (bytes_of 8 v) out.old }
-{
-    store::<8>(out, at, v);
-}
-
-pub fn store32(out: &mut [u8], at: usize, v: u64)
-    requires { at + 4 ≤ length out.old }
-    ensures { out.new ≡ put_at at (bytes_of 4 v) out.old }
-{
-    store::<4>(out, at, v);
-}
-
-pub fn store16(out: &mut [u8], at: usize, v: u64)
-    requires { at + 2 ≤ length out.old }
-    ensures { out.new ≡ put_at at (bytes_of 2 v) out.old }
-{
-    store::<2>(out, at, v);
 }
 
 // The bytes given at an offset, by the definitions' word for that, which the clauses of its callers say too.
@@ -52,11 +31,4 @@ pub fn copy_block(out: &mut [u8], at: usize, given: &[u8])
     let (first, second) = given.split_at(HALF_BLOCK);
     copy(out, at, first);
     copy(out, at + HALF_BLOCK, second);
-}
-
-// Every byte the same.
-pub fn fill(out: &mut [u8], byte: u8)
-    ensures { out.new ≡ replicate (length out.old) byte }
-{
-    out.fill(byte);
 }

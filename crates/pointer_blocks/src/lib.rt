@@ -106,5 +106,5 @@ fn empty(p: &PointerBlock<'_>, room: &mut [u8])
     let offset = p.offset();
     let end = offset + 8 * p.count();
     fields::stores::copy_block(room, 0, p.bytes());
-    fields::stores::fill(&mut room[offset..end], 0xFF);
+    room[offset..end].fill(0xFF);
 }
