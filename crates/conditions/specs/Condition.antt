@@ -1,15 +1,13 @@
 -- Which of the four blocks stand, and which of the two pairs agree. Assumes nothing.
 use Rattle.std.specs.Prelude.{List, ℕ, length}
 use Rattle.rules.specs.Bytes.{block}
-use Rattle.rules.specs.Answers.{Answer, refused, given, ◌>>=◌}
+use Rattle.rules.specs.Answers.{Answer, given, ◌>>=◌}
 use Rattle.rules.specs.declared.Setting.{Setting}
 use Rattle.rules.specs.Table.{table_stands}
 use Rattle.rules.specs.Pointers.{pointers_stand}
 use Rattle.rules.specs.Copies.{view, tables_agree, pointers_agree}
 use Rattle.rules.specs.declared.View.{View}
 use Rattle.conditions.specs.declared.Condition.{Condition}
-use Rattle.conditions.specs.declared.Inspected.{Inspected}
-use Rattle.conditions.specs.declared.Inspected.TheVariants.{Is, Refused}
 
 -- by where the blocks are
 unfoldable pub condition_by : Setting → List ℕ → View → Condition
@@ -25,8 +23,3 @@ condition_by s img v = record {
 -- refusals 1, 2, 3, 50, 51 and 5, or the condition of the four blocks
 unfoldable pub condition : Setting → List ℕ → Answer Condition
 condition s img = view s img >>= λ v. given (condition_by s img v)
-
--- what the code answers
-unfoldable pub inspected : Inspected → Answer Condition
-inspected (Is c) = given c
-inspected (Refused why) = refused why

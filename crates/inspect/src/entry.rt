@@ -1,53 +1,39 @@
 // The entries of the table read, slots or not, by their numbers.
 ghost use Rattle.std.specs.Prelude.{◌≡◌};
-ghost use Rattle.infos.specs.Answers.{known};
-ghost use Rattle.inspect.specs.Totals.{totalled};
 ghost use Rattle.inspect.specs.Entries.{entry_total, entry_info, entry_name};
 
-use super::Total;
-use infos::Known;
-use rules::{EntryNo, Setting};
-use views::Viewed;
+use rules::{EntryNo, Refusal, Setting, SlotInfo};
+use views::opened;
 
 // Refusals 1, 2, 3, 50, 51 and 5, or how many entries there are.
-pub fn entry_total(image: &[u8], setting: Setting) -> Total
-    ensures { totalled result ≡ entry_total setting image.now }
+#[tactic(auto, unfolding(crate::specs::Entries::entry_total), using(views::proofs::Opening::located))]
+pub fn entry_total(image: &[u8], setting: Setting) -> Result<usize, Refusal>
+    ensures { result ≡ entry_total setting image.now }
 {
-    let seen = views::view(image, setting);
-    match seen {
-        Viewed::Refused(why) => Total::Refused(why),
-        Viewed::At(v) => {
-            let at = v.table;
-            let n = entries::entry_count(fields::block_at(image, at));
-            Total::Is(n)
-        }
-    }
+    let v = views::view(image, setting)?;
+    Ok(entries::entry_count(opened::table_of(image, v).bytes()))
 }
 
 // Refusals 1, 2, 3, 50, 51, 5 and 92, or the number, start, length and flags of an entry.
-pub fn entry_info(image: &[u8], setting: Setting, entry: EntryNo) -> Known
-    ensures { known result ≡ entry_info setting image.now entry.0 }
+#[tactic(auto, unfolding(crate::specs::Entries::entry_info), using(views::proofs::Opening::located))]
+pub fn entry_info(
+    image: &[u8],
+    setting: Setting,
+    entry: EntryNo,
+) -> Result<SlotInfo, Refusal>
+    ensures { result ≡ entry_info setting image.now entry.0 }
 {
-    let seen = views::view(image, setting);
-    match seen {
-        Viewed::Refused(why) => Known::Refused(why),
-        Viewed::At(v) => {
-            let at = v.table;
-            infos::entry::info_in(fields::block_at(image, at), entry)
-        }
-    }
+    let v = views::view(image, setting)?;
+    infos::entry::info_in(opened::table_of(image, v).entries(), entry)
 }
 
 // The name of an entry up to its zero, as a part of the image; an empty part when refused.
+#[tactic(auto, unfolding(crate::specs::Entries::entry_name), using(views::proofs::Opening::located, views::proofs::Opening::table_of_view, views::proofs::Opening::no_table, crate::proofs::EntryNames::no_entry_name))]
 pub fn entry_name(image: &[u8], setting: Setting, entry: EntryNo) -> &[u8]
     ensures { result.now ≡ entry_name setting image.now entry.0 }
 {
-    let seen = views::view(image, setting);
-    match seen {
-        Viewed::Refused(_) => &image[..0],
-        Viewed::At(v) => {
-            let at = v.table;
-            infos::entry::name_in(fields::block_at(image, at), entry)
-        }
+    match views::view(image, setting) {
+        Ok(v) => infos::entry::name_in(opened::table_of(image, v).entries(), entry),
+        Err(_) => &[],
     }
 }

@@ -2,7 +2,7 @@
 -- name exactly where `slot_info` refuses. The number of the refusal is theirs. Assumes nothing.
 use mathlib.Core.Path.{◌≡◌, refl}
 use mathlib.Core.Bool.{true}
-use mathlib.Core.List.{List}
+use mathlib.Core.List.{List, []}
 use Prim.Native.Nat.{ℕ, ◌<◌}
 use native.Mathlib.Omega.{arith}
 use lib.Dec.{eqb}
@@ -21,17 +21,22 @@ use Rattle.rules.proofs.Lists.Combinators.{all_at}
 use Rattle.rules.proofs.Steps.Frame.{length-block}
 use Rattle.rules.proofs.Table.Standing.{standing}
 use Rattle.rules.proofs.Table.Renaming.{slot_row_found}
-use Rattle.reading.specs.Answers.{is_refused}
+use Rattle.std.specs.Prelude.{is_err}
 use Rattle.views.proofs.Seen.{seen, table_followed, table_read_stands}
+
+-- no table has no slots
+pub no_slot_name : (k : ℕ) → name_in (entries []) k ≡ []
+unfolding name_in entries entry_count field little_endian entries_from slot_there slots keep
+no_slot_name k = rw (le-ltb k 0 (omega arith))
 
 module _ (s : Setting) (img : List ℕ) where
   -- ---- the table
 
-  pub table_empty : eqb (length (table_part s img)) 0 ≡ is_refused (view s img)
-  unfolding table_part table_of is_refused
+  pub table_empty : eqb (length (table_part s img)) 0 ≡ is_err (view s img)
+  unfolding table_part table_of
   table_empty = by (view s img) refl
     where
-      by : (a : Answer View) → view s img ≡ a → eqb (length (table_part s img)) 0 ≡ is_refused (view s img)
+      by : (a : Answer View) → view s img ≡ a → eqb (length (table_part s img)) 0 ≡ is_err (view s img)
       by (refused n) e = rw e
       by (given v) e =
           let long = length-block img v.table (table_followed s img v (seen s img v e)).table_inside in
@@ -53,11 +58,11 @@ module _ (s : Setting) (img : List ℕ) where
         let right = all_at name_right es no_entry (slot_row es k) st.rule3 found in
         ltb-true 0 _ (and_true _ _ right).0
 
-    pub name_empty : eqb (length (slot_name s img k)) 0 ≡ is_refused (slot_info s img k)
-    unfolding slot_name slot_info table_part table_of name_in is_refused unless
+    pub name_empty : eqb (length (slot_name s img k)) 0 ≡ is_err (slot_info s img k)
+    unfolding slot_name slot_info table_part table_of name_in unless
     name_empty = by (view s img) refl
       where
-        by : (a : Answer View) → view s img ≡ a → eqb (length (slot_name s img k)) 0 ≡ is_refused (slot_info s img k)
+        by : (a : Answer View) → view s img ≡ a → eqb (length (slot_name s img k)) 0 ≡ is_err (slot_info s img k)
         by (refused n) e =
             unfold entries entry_count field little_endian entries_from slot_there slots keep in
             rw (e, le-ltb k 0 (omega arith))

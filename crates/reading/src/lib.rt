@@ -3,99 +3,63 @@
 
 ghost use Rattle.std.specs.Prelude.{◌≡◌, length};
 ghost use Rattle.rules.specs.Readers.{order_list, row_after, table_part, slot_count, slot_info, slot_name};
-ghost use Rattle.infos.specs.Answers.{known};
-ghost use Rattle.order_lists.specs.Answers.{listed, count_of};
-ghost use Rattle.reading.specs.Answers.{counted};
+ghost use Rattle.order_lists.specs.Answers.{count_of};
 
-use infos::Known;
-use order_lists::Listed;
-use rules::{Refusal, Setting, SlotNo};
-use views::Viewed;
-
-// How many application slots there are, or a refusal.
-#[derive(Clone, Copy)]
-pub enum Counted {
-    Slots(usize),
-    Refused(Refusal),
-}
+use rules::{Refusal, Setting, SlotInfo, SlotNo};
+use views::opened;
 
 // The 4,096 bytes of the table copy read, as a part of the image; an empty part when refused.
+#[tactic(auto, using(views::proofs::Opening::located, views::proofs::Opening::table_of_view, views::proofs::Opening::no_table))]
 pub fn table_read(image: &[u8], setting: Setting) -> &[u8]
     ensures { result.now ≡ table_part setting image.now }
 {
-    let seen = views::view(image, setting);
-    match seen {
-        Viewed::Refused(_) => &image[..0],
-        Viewed::At(v) => {
-            let read = v.table;
-            fields::block_at(image, read)
-        }
+    match views::view(image, setting) {
+        Ok(v) => fields::block_at(image, v.table),
+        Err(_) => &image[..0],
     }
 }
 
-// The boot order's slot numbers into the front of the row, or a refusal, which leaves the row as it was.
-pub fn order_list(image: &[u8], setting: Setting, row: &mut [u32]) -> Listed
-    ensures answer { listed result
-        ≡ count_of (order_list setting image.now (length row.old)) }
+// The boot order's slot numbers into the front of the row, and how many there are, or a refusal, which leaves the row as it
+// was.
+#[tactic(auto, unfolding(rules::specs::Readers::order_list, rules::specs::Readers::row_after, rules::specs::Copies::boot_order), using(views::proofs::Opening::located))]
+pub fn order_list(image: &[u8], setting: Setting, row: &mut [u32]) -> Result<usize, Refusal>
+    ensures answer { result ≡ count_of (order_list setting image.now (length row.old)) }
     ensures written { row.new ≡ row_after
         (order_list setting image.now (length row.old)) row.old }
 {
-    let seen = views::view(image, setting);
-    match seen {
-        Viewed::Refused(why) => Listed::Refused(why),
-        Viewed::At(v) => {
-            let table_at = v.table;
-            let pointers_at = v.pointers;
-            let t = fields::block_at(image, table_at);
-            let p = fields::block_at(image, pointers_at);
-            order_lists::list_order(t, p, row)
-        }
-    }
+    let v = views::view(image, setting)?;
+    order_lists::list_order(
+        &opened::table_of(image, v),
+        &opened::pointers_of(image, v),
+        row,
+    )
 }
 
 // How many application slots the table read has.
-pub fn slot_count(image: &[u8], setting: Setting) -> Counted
-    ensures { counted result ≡ slot_count setting image.now }
+#[tactic(auto, unfolding(rules::specs::Readers::slot_count), using(views::proofs::Opening::located))]
+pub fn slot_count(image: &[u8], setting: Setting) -> Result<usize, Refusal>
+    ensures { result ≡ slot_count setting image.now }
 {
-    let seen = views::view(image, setting);
-    match seen {
-        Viewed::Refused(why) => Counted::Refused(why),
-        Viewed::At(v) => {
-            let at = v.table;
-            let t = fields::block_at(image, at);
-            let n = entries::entry_count(t);
-            let met = slots::count_slots(t, n);
-            Counted::Slots(met)
-        }
-    }
+    let v = views::view(image, setting)?;
+    Ok(opened::table_of(image, v).slot_total())
 }
 
 // The entry number, start, length and flags of a slot.
-pub fn slot_info(image: &[u8], setting: Setting, slot: SlotNo) -> Known
-    ensures { known result ≡ slot_info setting image.now slot.0 }
+#[tactic(auto, unfolding(rules::specs::Readers::slot_info), using(views::proofs::Opening::located))]
+pub fn slot_info(image: &[u8], setting: Setting, slot: SlotNo) -> Result<SlotInfo, Refusal>
+    ensures { result ≡ slot_info setting image.now slot.0 }
 {
-    let seen = views::view(image, setting);
-    match seen {
-        Viewed::Refused(why) => Known::Refused(why),
-        Viewed::At(v) => {
-            let at = v.table;
-            let t = fields::block_at(image, at);
-            infos::slot::info_in(t, entries::entry_count(t), slot)
-        }
-    }
+    let v = views::view(image, setting)?;
+    infos::slot::info_in(opened::table_of(image, v).entries(), slot)
 }
 
 // The name of a slot up to its zero, as a part of the image; an empty part when refused.
+#[tactic(auto, unfolding(rules::specs::Readers::slot_name), using(views::proofs::Opening::located, views::proofs::Opening::table_of_view, views::proofs::Opening::no_table, crate::proofs::Empty::no_slot_name))]
 pub fn slot_name(image: &[u8], setting: Setting, slot: SlotNo) -> &[u8]
     ensures { result.now ≡ slot_name setting image.now slot.0 }
 {
-    let seen = views::view(image, setting);
-    match seen {
-        Viewed::Refused(_) => &image[..0],
-        Viewed::At(v) => {
-            let at = v.table;
-            let t = fields::block_at(image, at);
-            infos::slot::name_in(t, entries::entry_count(t), slot)
-        }
+    match views::view(image, setting) {
+        Ok(v) => infos::slot::name_in(opened::table_of(image, v).entries(), slot),
+        Err(_) => &image[..0],
     }
 }

@@ -41,6 +41,12 @@ located s img v h =
 pub granule_positive : (s : Setting) (img : List ℕ) (v : View) → view s img ≡ given v → 0 < s.granule
 granule_positive s img v h = omega (arith, granule_holds_block s.granule (seen s img v h).grained)
 
+pub same_spt0 : (s : Setting) (img : List ℕ) (v : View) → view s img ≡ given v → v.spt0 ≡ s.spt0
+same_spt0 s img v h = (seen s img v h).same_spt0
+
+pub same_spt1 : (s : Setting) (img : List ℕ) (v : View) → view s img ≡ given v → v.spt1 ≡ s.spt1
+same_spt1 s img v h = (seen s img v h).same_spt1
+
 -- ---- the table and the pointer block read
 
 module _ {img : List ℕ} {v : View} (l : Located img v) where

@@ -1,6 +1,7 @@
 // Where things are on a flash, and which copies are read. Nothing here stores into an image.
 #![tactic(auto)]
 
+pub mod opened; // the table read and the pointer block read
 mod copies_read; // which copy of the table and of the pointer block is read, and refusals 50, 51 and 5
 
 ghost use Rattle.std.specs.Prelude.{◌≡◌};
