@@ -1,24 +1,31 @@
 // Refusals 6 and 7, which all commands for a slot share.
 ghost use Rattle.std.specs.Prelude.{◌≡◌};
 ghost use Rattle.views.specs.Inner.Located.{Located};
-ghost use Rattle.drafts.specs.Inner.Asked.{outcome, slot_asked};
+ghost use Rattle.drafts.specs.Inner.Asked.{copies_equal, slot_asked};
 
-use super::Outcome;
-use rules::refusals::{COPIES_DIFFER, NO_SUCH_SLOT};
-use rules::{SlotNo, View};
+use rules::{Refusal, SlotNo, View};
+use views::opened;
 
 // Both pairs agree, and the slot is there.
-pub fn ask_slot(image: &[u8], v: View, slot: SlotNo) -> Outcome
+#[tactic(auto, unfolding(crate::specs::Inner::Asked::slot_asked, rules::specs::Answers::unless, rules::specs::Readers::slot_there))]
+pub fn ask_slot(image: &[u8], v: View, slot: SlotNo) -> Result<(), Refusal>
     requires { Located image.now v }
-    ensures { outcome result ≡ slot_asked image.now v slot.0 }
+    ensures { result ≡ slot_asked image.now v slot.0 }
 {
-    if !(copies::same_blocks(image, v.spt0, v.spt1) & copies::same_blocks(image, v.cpb0, v.cpb1)) {
-        return Outcome::Refused(COPIES_DIFFER);
+    if !copies_equal(image, v) {
+        return Err(Refusal::CopiesDiffer);
     }
-    let at = v.table;
-    let t = fields::block_at(image, at);
-    if slots::count_slots(t, entries::entry_count(t)) <= slot.0 as usize {
-        return Outcome::Refused(NO_SUCH_SLOT);
+    if opened::table_of(image, v).slot_total() <= slot.0 as usize {
+        return Err(Refusal::NoSuchSlot);
     }
-    Outcome::Started
+    Ok(())
+}
+
+// Both pairs agree, once a copy of each is read.
+#[tactic(auto, unfolding(crate::specs::Inner::Asked::copies_equal))]
+pub fn copies_equal(image: &[u8], v: View) -> bool
+    requires { Located image.now v }
+    ensures { result ≡ copies_equal image.now v }
+{
+    copies::same_blocks(image, v.spt0, v.spt1) && copies::same_blocks(image, v.cpb0, v.cpb1)
 }

@@ -3,18 +3,12 @@
 use Rattle.std.specs.Prelude.{Bool, not, ◌&&◌, List, ℕ, ltb}
 use Rattle.rules.specs.Lists.{same, any}
 use Rattle.rules.specs.Bytes.{block}
-use Rattle.rules.specs.Answers.{Answer, refused, given, unless}
+use Rattle.rules.specs.Answers.{Answer, given, unless}
 use Rattle.rules.specs.Table.{entry_count, entries, has_name}
 use Rattle.rules.specs.Readers.{slot_there}
 use Rattle.rules.specs.Commands.{name_allowed, size_right}
 use Rattle.rules.specs.declared.View.{View}
-use Rattle.drafts.specs.declared.Outcome.{Outcome}
-use Rattle.drafts.specs.declared.Outcome.TheVariants.{Started, Refused}
 use Rattle.rules.specs.declared.Refusal.TheVariants.{CopiesDiffer, NoSuchSlot, NameNotAllowed, NameTaken, LengthWrong, NoRowLeft}
-
-unfoldable pub outcome : Outcome → Answer (Unit {0})
-outcome Started = given tt
-outcome (Refused why) = refused why
 
 -- the copies of both pairs are equal
 unfoldable pub copies_equal : List ℕ → View → Bool
