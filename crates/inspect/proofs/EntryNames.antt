@@ -20,7 +20,7 @@ use Rattle.rules.proofs.Lists.Tests.{and_true, refused_given}
 use Rattle.rules.proofs.Lists.Combinators.{all_at}
 use Rattle.rules.proofs.Table.Standing.{standing}
 use Rattle.views.proofs.Seen.{seen, table_read_stands}
-use Rattle.infos.specs.Entries.{entry_there, entry_of, info_of, info_in, name_in}
+use Rattle.infos.specs.Entries.{entry_there, entry_of, info_of, name_of, info_in, name_in}
 use Rattle.inspect.specs.Entries.{entry_info, entry_name}
 use Rattle.rules.specs.declared.Refusal.TheVariants.{NoSuchEntry}
 
@@ -41,7 +41,7 @@ module _ (es : List Entry) (i : ℕ) where
       by_there false t = rw t
 
   a_name_there : {f : SlotInfo} → all name_right es ≡ true → info_in es i ≡ given f → 0 < length (name_in es i)
-  unfolding info_in name_in unless name_right entry_there
+  unfolding info_in name_in name_of unless name_right entry_there
   a_name_there {f} right e = by_there (entry_there es i) refl
     where
       by_there : (b : Bool) → entry_there es i ≡ b → 0 < length (name_in es i)

@@ -6,7 +6,7 @@ use rules::{EntryNo, Refusal, Setting, SlotInfo};
 use views::opened;
 
 // Refusals 1, 2, 3, 50, 51 and 5, or how many entries there are.
-#[tactic(auto, unfolding(crate::specs::Entries::entry_total), using(views::proofs::Opening::located))]
+#[tactic(auto, unfolding(crate::specs::Entries::entry_total))]
 pub fn entry_total(image: &[u8], setting: Setting) -> Result<usize, Refusal>
     ensures { result ≡ entry_total setting image.now }
 {
@@ -15,7 +15,7 @@ pub fn entry_total(image: &[u8], setting: Setting) -> Result<usize, Refusal>
 }
 
 // Refusals 1, 2, 3, 50, 51, 5 and 92, or the number, start, length and flags of an entry.
-#[tactic(auto, unfolding(crate::specs::Entries::entry_info), using(views::proofs::Opening::located))]
+#[tactic(auto, unfolding(crate::specs::Entries::entry_info))]
 pub fn entry_info(
     image: &[u8],
     setting: Setting,
@@ -28,7 +28,7 @@ pub fn entry_info(
 }
 
 // The name of an entry up to its zero, as a part of the image; an empty part when refused.
-#[tactic(auto, unfolding(crate::specs::Entries::entry_name), using(views::proofs::Opening::located, views::proofs::Opening::table_of_view, views::proofs::Opening::no_table, crate::proofs::EntryNames::no_entry_name))]
+#[tactic(auto, unfolding(crate::specs::Entries::entry_name), using(views::proofs::Opening::table_of_view, views::proofs::Opening::no_table, crate::proofs::EntryNames::no_entry_name))]
 pub fn entry_name(image: &[u8], setting: Setting, entry: EntryNo) -> &[u8]
     ensures { result.now ≡ entry_name setting image.now entry.0 }
 {

@@ -9,7 +9,7 @@ use rules::{Refusal, Setting, SlotInfo, SlotNo};
 use views::opened;
 
 // The 4,096 bytes of the table copy read, as a part of the image; an empty part when refused.
-#[tactic(auto, using(views::proofs::Opening::located, views::proofs::Opening::table_of_view, views::proofs::Opening::no_table))]
+#[tactic(auto, using(views::proofs::Opening::table_of_view, views::proofs::Opening::no_table))]
 pub fn table_read(image: &[u8], setting: Setting) -> &[u8]
     ensures { result.now ≡ table_part setting image.now }
 {
@@ -21,7 +21,7 @@ pub fn table_read(image: &[u8], setting: Setting) -> &[u8]
 
 // The boot order's slot numbers into the front of the row, and how many there are, or a refusal, which leaves the row as it
 // was.
-#[tactic(auto, unfolding(rules::specs::Readers::order_list, rules::specs::Readers::row_after, rules::specs::Copies::boot_order), using(views::proofs::Opening::located))]
+#[tactic(auto, unfolding(rules::specs::Readers::order_list, rules::specs::Readers::row_after, rules::specs::Copies::boot_order))]
 pub fn order_list(image: &[u8], setting: Setting, row: &mut [u32]) -> Result<usize, Refusal>
     ensures answer { result ≡ count_of (order_list setting image.now (length row.old)) }
     ensures written { row.new ≡ row_after
@@ -36,7 +36,7 @@ pub fn order_list(image: &[u8], setting: Setting, row: &mut [u32]) -> Result<usi
 }
 
 // How many application slots the table read has.
-#[tactic(auto, unfolding(rules::specs::Readers::slot_count), using(views::proofs::Opening::located))]
+#[tactic(auto, unfolding(rules::specs::Readers::slot_count))]
 pub fn slot_count(image: &[u8], setting: Setting) -> Result<usize, Refusal>
     ensures { result ≡ slot_count setting image.now }
 {
@@ -45,7 +45,7 @@ pub fn slot_count(image: &[u8], setting: Setting) -> Result<usize, Refusal>
 }
 
 // The entry number, start, length and flags of a slot.
-#[tactic(auto, unfolding(rules::specs::Readers::slot_info), using(views::proofs::Opening::located))]
+#[tactic(auto, unfolding(rules::specs::Readers::slot_info))]
 pub fn slot_info(image: &[u8], setting: Setting, slot: SlotNo) -> Result<SlotInfo, Refusal>
     ensures { result ≡ slot_info setting image.now slot.0 }
 {
@@ -54,7 +54,7 @@ pub fn slot_info(image: &[u8], setting: Setting, slot: SlotNo) -> Result<SlotInf
 }
 
 // The name of a slot up to its zero, as a part of the image; an empty part when refused.
-#[tactic(auto, unfolding(rules::specs::Readers::slot_name), using(views::proofs::Opening::located, views::proofs::Opening::table_of_view, views::proofs::Opening::no_table, crate::proofs::Empty::no_slot_name))]
+#[tactic(auto, unfolding(rules::specs::Readers::slot_name), using(views::proofs::Opening::table_of_view, views::proofs::Opening::no_table, crate::proofs::Empty::no_slot_name))]
 pub fn slot_name(image: &[u8], setting: Setting, slot: SlotNo) -> &[u8]
     ensures { result.now ≡ slot_name setting image.now slot.0 }
 {

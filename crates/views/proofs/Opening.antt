@@ -1,12 +1,13 @@
 -- How code goes on from what `view` answered: a refusal is passed on, and by a view every block is inside the image and
 -- the two that are read can be walked. Assumes nothing.
-use mathlib.Core.Path.{◌≡◌}
+use mathlib.Core.Path.{◌≡◌, sym}
+use Rattle.std.specs.Prelude.{IfOk}
 use mathlib.Core.List.{List, []}
 use Prim.Native.Nat.{ℕ, ◌<◌}
 use native.Mathlib.Omega.{arith}
 use lib.ListN.{length}
 use Rattle.rules.specs.Bytes.{block, block_size}
-use Rattle.rules.specs.Answers.{refused, given}
+use Rattle.rules.specs.Answers.{Answer, refused, given}
 use Rattle.rules.specs.declared.Setting.{Setting}
 use Rattle.rules.specs.declared.Refusal.{Refusal}
 use Rattle.rules.specs.Table.{entry_count}
@@ -37,6 +38,10 @@ located s img v h =
       stand = pointers_read_stand s img v k;
       short = length_fits (length img) k.long;
     }
+
+pub viewed_located : (s : Setting) (img : List ℕ) (r : Answer View) → r ≡ view s img → IfOk r (λ v. Located img v)
+viewed_located s img (refused why) e = tt
+viewed_located s img (given v) e = located s img v (sym e)
 
 pub granule_positive : (s : Setting) (img : List ℕ) (v : View) → view s img ≡ given v → 0 < s.granule
 granule_positive s img v h = omega (arith, granule_holds_block s.granule (seen s img v h).grained)
