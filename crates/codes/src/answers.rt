@@ -1,19 +1,20 @@
-// A number told into a lent one, or the refusal's number.
+// An answer as the number that is returned: 0, or that of the refusal.
 ghost use Rattle.std.specs.Prelude.{◌≡◌};
-ghost use Rattle.inspect.specs.Totals.{totalled};
 ghost use Rattle.codes.specs.Answered.{number, kept};
 
-use inspect::Total;
+use rules::Refusal;
 
-pub fn total(answer: Total, count: &mut usize) -> u8
-    ensures { (result ≡ number (totalled answer))
-        × (count.new ≡ kept (λ n. n) (totalled answer) count.old) }
+// What is given goes into the lent place.
+#[tactic(auto, unfolding(crate::specs::Answered::number, crate::specs::Answered::kept))]
+pub fn told(answer: Result<usize, Refusal>, count: &mut usize) -> u8
+    ensures returned { result ≡ number answer }
+    ensures left { count.new ≡ kept (λ n. n) answer count.old }
 {
     match answer {
-        Total::Refused(why) => why.number,
-        Total::Is(n) => {
+        Ok(n) => {
             *count = n;
             0
         }
+        Err(why) => why.number(),
     }
 }

@@ -7,8 +7,10 @@ use conditions::Condition;
 use rules::Place;
 
 // The slot is 0 where the place is not live.
+#[tactic(auto, unfolding(crate::specs::Judged::place_kind, crate::specs::Judged::place_slot))]
 pub fn place_code(place: Place) -> PlaceCode
-    ensures { (result.kind ≡ place_kind place) × (result.slot ≡ place_slot place) }
+    ensures kind { result.kind ≡ place_kind place }
+    ensures slot { result.slot ≡ place_slot place }
 {
     match place {
         Place::Erased => PlaceCode { kind: 0, slot: 0 },
@@ -19,21 +21,20 @@ pub fn place_code(place: Place) -> PlaceCode
     }
 }
 
+#[tactic(auto, unfolding(crate::specs::Judged::bit))]
 fn bit(test: bool) -> u8
     ensures { result ≡ bit test }
 {
-    if test {
-        return 1;
-    }
-    0
+    u8::from(test)
 }
 
 pub fn bits_of(k: Condition) -> Bits
-    ensures { (result.spt0 ≡ bit k.spt0)
-        × ((result.spt1 ≡ bit k.spt1)
-        × ((result.cpb0 ≡ bit k.cpb0)
-        × ((result.cpb1 ≡ bit k.cpb1)
-        × ((result.tables ≡ bit k.tables) × (result.pointers ≡ bit k.pointers))))) }
+    ensures spt0 { result.spt0 ≡ bit k.spt0 }
+    ensures spt1 { result.spt1 ≡ bit k.spt1 }
+    ensures cpb0 { result.cpb0 ≡ bit k.cpb0 }
+    ensures cpb1 { result.cpb1 ≡ bit k.cpb1 }
+    ensures tables { result.tables ≡ bit k.tables }
+    ensures pointers { result.pointers ≡ bit k.pointers }
 {
     Bits {
         spt0: bit(k.spt0),

@@ -2,12 +2,12 @@
 #![tactic(auto)]
 
 pub mod steps; // a step as three numbers
-pub mod answers; // a number told, or a refusal
+pub mod answers; // an answer as a number
 pub mod name_room; // a name that has to fit
 pub mod judgements; // a judgement of a place as two, a test as one
 
 // A step's kind, its address and the byte programmed.
-#[derive(Clone, Copy)]
+#[derive(Clone, Copy, Debug, PartialEq, Eq)]
 pub struct StepCode {
     pub kind: u8,
     pub address: usize,
@@ -15,14 +15,14 @@ pub struct StepCode {
 }
 
 // What a place holds, and the slot of a live one.
-#[derive(Clone, Copy)]
+#[derive(Clone, Copy, Debug, PartialEq, Eq)]
 pub struct PlaceCode {
     pub kind: u8,
     pub slot: u32,
 }
 
 // The condition of the four blocks, each test as a number.
-#[derive(Clone, Copy)]
+#[derive(Clone, Copy, Debug, PartialEq, Eq)]
 pub struct Bits {
     pub spt0: u8,
     pub spt1: u8,

@@ -1,22 +1,21 @@
 // A name that has to fit into lent bytes.
 ghost use Rattle.std.specs.Prelude.{◌≡◌};
-ghost use Rattle.infos.specs.Answers.{known};
 ghost use Rattle.codes.specs.Inner.Fitting.{fitting};
 
-use infos::Known;
-use rules::refusals::NAME_TOO_LONG;
+use rules::{Refusal, SlotInfo};
 
 // What is known of a slot or an entry, or 91 where its name is longer than the bytes lent for it.
-pub fn fitting(what: Known, size: usize, room: usize) -> Known
-    ensures { known result ≡ fitting (known what) size room }
+#[tactic(auto, unfolding(crate::specs::Inner::Fitting::fitting, rules::specs::Answers::unless))]
+pub fn fitting(
+    what: Result<SlotInfo, Refusal>,
+    size: usize,
+    room: usize,
+) -> Result<SlotInfo, Refusal>
+    ensures { result ≡ fitting what size room }
 {
-    match what {
-        Known::Refused(why) => Known::Refused(why),
-        Known::Is(f) => {
-            if room < size {
-                return Known::Refused(NAME_TOO_LONG);
-            }
-            Known::Is(f)
-        }
+    let info = what?;
+    if room < size {
+        return Err(Refusal::NameTooLong);
     }
+    Ok(info)
 }

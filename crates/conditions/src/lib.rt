@@ -1,9 +1,12 @@
 // Which copies of a flash stand, and which pairs agree.
 #![tactic(auto)]
 
-ghost use Rattle.std.specs.Prelude.{◌≡◌};
+ghost use Rattle.std.specs.Prelude.{◌≡◌, ◌&&◌, ◌+◌, ◌≤◌, length};
+ghost use Rattle.rules.specs.Lists.{same};
+ghost use Rattle.rules.specs.Bytes.{block, block_size};
 ghost use Rattle.rules.specs.Answers.{given};
 ghost use Rattle.rules.specs.Copies.{view};
+ghost use Rattle.views.specs.Inner.Located.{Located};
 ghost use Rattle.conditions.specs.Condition.{condition_by, condition};
 
 use rules::{Refusal, Setting, View};
@@ -28,9 +31,10 @@ pub fn condition_of(image: &[u8], setting: Setting) -> Result<Condition, Refusal
     Ok(condition_by(image, setting, v))
 }
 
-#[tactic(auto, using(views::proofs::Opening::located, views::proofs::Opening::granule_positive, views::proofs::Opening::same_spt0, views::proofs::Opening::same_spt1), unfolding(crate::specs::Condition::condition_by, rules::specs::Copies::tables_agree, rules::specs::Copies::pointers_agree, rules::specs::Copies::pair_agrees))]
+#[tactic(auto, using(views::proofs::Opening::granule_positive, views::proofs::Opening::same_spt0, views::proofs::Opening::same_spt1), unfolding(crate::specs::Condition::condition_by, rules::specs::Copies::tables_agree, rules::specs::Copies::pointers_agree, rules::specs::Copies::pair_agrees))]
 fn condition_by(image: &[u8], setting: Setting, v: View) -> Condition
-    requires { view setting image.now ≡ given v }
+    requires seen { view setting image.now ≡ given v }
+    requires inside { Located image.now v }
     ensures { result ≡ condition_by setting image.now v }
 {
     let spt0 = table::table_stands(image, v.spt0, setting);
@@ -42,7 +46,16 @@ fn condition_by(image: &[u8], setting: Setting, v: View) -> Condition
         spt1,
         cpb0,
         cpb1,
-        tables: spt0 && spt1 && copies::same_blocks(image, v.spt0, v.spt1),
-        pointers: cpb0 && cpb1 && copies::same_blocks(image, v.cpb0, v.cpb1),
+        tables: agree(image, v.spt0, v.spt1, spt0 & spt1),
+        pointers: agree(image, v.cpb0, v.cpb1, cpb0 & cpb1),
     }
+}
+
+// A pair agrees: both copies stand, and they are equal.
+fn agree(image: &[u8], a0: usize, a1: usize, both_stand: bool) -> bool
+    requires first { a0 + block_size ≤ length image.now }
+    requires second { a1 + block_size ≤ length image.now }
+    ensures { result ≡ (both_stand && same (block image.now a0) (block image.now a1)) }
+{
+    both_stand && copies::same_blocks(image, a0, a1)
 }

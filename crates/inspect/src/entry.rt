@@ -16,11 +16,7 @@ pub fn entry_total(image: &[u8], setting: Setting) -> Result<usize, Refusal>
 
 // Refusals 1, 2, 3, 50, 51, 5 and 92, or the number, start, length and flags of an entry.
 #[tactic(auto, unfolding(crate::specs::Entries::entry_info))]
-pub fn entry_info(
-    image: &[u8],
-    setting: Setting,
-    entry: EntryNo,
-) -> Result<SlotInfo, Refusal>
+pub fn entry_info(image: &[u8], setting: Setting, entry: EntryNo) -> Result<SlotInfo, Refusal>
     ensures { result ≡ entry_info setting image.now entry.0 }
 {
     let v = views::view(image, setting)?;
