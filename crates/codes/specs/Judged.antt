@@ -1,5 +1,7 @@
--- A test and a judgement of a place as numbers. Assumes nothing.
-use Rattle.std.specs.Prelude.{Bool, cond, ℕ}
+-- A test, a judgement of a place and a fault of a table copy as numbers. Assumes nothing.
+use Rattle.std.specs.Prelude.{Bool, cond, ℕ, Option, Some, None}
+use Rattle.rules.specs.Answers.{rule_number, no_entry_number}
+use Rattle.rules.specs.declared.Fault.{Fault}
 use Rattle.rules.specs.declared.Place.{Place}
 use Rattle.rules.specs.declared.Place.TheVariants.{Erased, Spent, Live, PartWritten, Stray}
 
@@ -22,3 +24,13 @@ place_slot (Live s) = s.0
 place_slot Spent = 0
 place_slot PartWritten = 0
 place_slot (Stray v) = 0
+
+-- the number of the rule that is broken first, 1 to 11; 0 for a copy that stands
+unfoldable pub fault_rule : Option Fault → ℕ
+fault_rule None = 0
+fault_rule (Some f) = rule_number f.rule
+
+-- the entry that breaks it, 127 where the rule is about no entry by itself, and for a copy that stands
+unfoldable pub fault_entry : Option Fault → ℕ
+fault_entry None = no_entry_number
+fault_entry (Some f) = f.entry.0

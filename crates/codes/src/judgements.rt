@@ -1,10 +1,10 @@
-// A judgement of a place as two numbers, and a test as one.
+// A judgement of a place and a fault of a table copy as two numbers each, and a test as one.
 ghost use Rattle.std.specs.Prelude.{◌≡◌};
-ghost use Rattle.codes.specs.Judged.{bit, place_kind, place_slot};
+ghost use Rattle.codes.specs.Judged.{bit, place_kind, place_slot, fault_rule, fault_entry};
 
-use super::{Bits, PlaceCode};
+use super::{Bits, FaultCode, PlaceCode};
 use conditions::Condition;
-use rules::Place;
+use rules::{Fault, Place};
 
 // The slot is 0 where the place is not live.
 #[tactic(auto, unfolding(crate::specs::Judged::place_kind, crate::specs::Judged::place_slot))]
@@ -18,6 +18,27 @@ pub fn place_code(place: Place) -> PlaceCode
         Place::Spent => PlaceCode { kind: 2, slot: 0 },
         Place::PartWritten => PlaceCode { kind: 3, slot: 0 },
         Place::Stray(_) => PlaceCode { kind: 4, slot: 0 },
+    }
+}
+
+// What is told of an entry where there is none.
+const NO_ENTRY: usize = 127;
+
+// Rule 0 and entry 127 for a copy that stands.
+#[tactic(auto, unfolding(crate::specs::Judged::fault_rule, crate::specs::Judged::fault_entry))]
+pub fn fault_code(fault: Option<Fault>) -> FaultCode
+    ensures rule { result.rule ≡ fault_rule fault }
+    ensures entry { result.entry ≡ fault_entry fault }
+{
+    match fault {
+        None => FaultCode {
+            rule: 0,
+            entry: NO_ENTRY,
+        },
+        Some(f) => FaultCode {
+            rule: f.rule.number(),
+            entry: f.entry.0,
+        },
     }
 }
 

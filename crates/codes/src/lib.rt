@@ -4,7 +4,7 @@
 pub mod steps; // a step as three numbers
 pub mod answers; // an answer as a number
 pub mod name_room; // a name that has to fit
-pub mod judgements; // a judgement of a place as two, a test as one
+pub mod judgements; // a judgement of a place and a fault as two, a test as one
 
 // A step's kind, its address and the byte programmed.
 #[derive(Clone, Copy, Debug, PartialEq, Eq)]
@@ -19,6 +19,13 @@ pub struct StepCode {
 pub struct PlaceCode {
     pub kind: u8,
     pub slot: u32,
+}
+
+// The rule that a table copy breaks first, and the entry that breaks it.
+#[derive(Clone, Copy, Debug, PartialEq, Eq)]
+pub struct FaultCode {
+    pub rule: u8,
+    pub entry: usize,
 }
 
 // The condition of the four blocks, each test as a number.

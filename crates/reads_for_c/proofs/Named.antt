@@ -23,12 +23,13 @@ put_front {row} {after} {text} p h =
     p.stored ∙ sets-eq text row 0 (omega arith) ∙ rw e
 
 -- a refusal writes nothing
-pub written_refused : {a : Answer (List ℕ)} {why : Refusal} (row : List ℕ) (count : ℕ)
+pub written_refused : {a : Answer (List ℕ)} {why : Refusal} {r : ℕ} (row : List ℕ) (count : ℕ)
+    → r ≡ number_of why
     → refused why ≡ a
-    → Written a number_of why row row count count
+    → Written a r row row count count
 unfolding row_after
-written_refused row count e = record {
-  returned = number-refused e;
+written_refused row count er e = record {
+  returned = er ∙ number-refused e;
   row_left = rw (← e);
   count_left = kept-refused length count e;
 }

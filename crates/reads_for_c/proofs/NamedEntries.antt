@@ -1,9 +1,9 @@
 -- What is lent for an entry with its name afterwards. Assumes nothing.
-use mathlib.Core.Path.{◌≡◌}
+use mathlib.Core.Path.{◌≡◌, ◌∙◌}
 use mathlib.Core.List.{List}
 use Prim.Native.Nat.{ℕ}
 use lib.ListN.{length}
-use Rattle.rules.specs.Answers.{Answer, refused, given, ◌>>=◌, number_of}
+use Rattle.rules.specs.Answers.{Answer, refused, given, number_of}
 use Rattle.rules.specs.declared.Refusal.{Refusal}
 use Rattle.rules.specs.Readers.{row_after}
 use Rattle.reads_for_c.specs.Inspected.{NamedEntry, name_of}
@@ -12,12 +12,13 @@ use Rattle.codes.proofs.Numbered.{number-refused, kept-refused}
 
 module _ {a : Answer NamedEntry} (row : List ℕ) where
   -- a refusal leaves it all as it was
-  pub entry_kept : {why : Refusal} (count start size flags : ℕ)
+  pub entry_kept : {why : Refusal} {r : ℕ} (count start size flags : ℕ)
+      → r ≡ number_of why
       → refused why ≡ a
-      → EntryTold a number_of why row row count count start start size size flags flags
+      → EntryTold a r row row count count start start size size flags flags
   unfolding name_of row_after
-  entry_kept count start size flags e = record {
-    returned = number-refused e;
+  entry_kept count start size flags er e = record {
+    returned = er ∙ number-refused e;
     name_left = rw (← e);
     count_left = kept-refused (λ e. length e.name) count e;
     start_left = kept-refused (λ e. e.info.start) start e;

@@ -1,21 +1,18 @@
 -- An order by its count. Assumes nothing.
-use mathlib.Core.Path.{◌≡◌, refl, sym}
+use mathlib.Core.Path.{◌≡◌, refl}
 use mathlib.Core.List.{List}
 use Prim.Native.Nat.{ℕ}
 use lib.ListN.{length}
-use Rattle.rules.specs.Answers.{Answer, refused, given, ◌>>=◌}
-use Rattle.rules.specs.declared.Refusal.{Refusal}
-use Rattle.rules.proofs.Lists.Tests.{refused_given}
+use Rattle.rules.specs.Answers.{Answer, refused, given}
 use Rattle.order_lists.specs.Answers.{count_of}
+use Rattle.codes.specs.Answered.{number, kept}
 
-pub order_refused : (a : Answer (List ℕ)) (why : Refusal) → refused why ≡ count_of a → refused why ≡ a
-unfolding count_of
-order_refused (refused w) why e = cc
-order_refused (given o) why e = absurd (refused_given why (length o) e)
+pub number_of_count : (a : Answer (List ℕ)) → number (count_of a) ≡ number a
+unfolding number
+number_of_count (refused why) = refl
+number_of_count (given o) = refl
 
-pub order_given : (a : Answer (List ℕ)) (k : ℕ)
-    → given k ≡ count_of a
-    → (o : List ℕ) × (given o ≡ a) × (k ≡ length o)
-unfolding count_of
-order_given (refused m) k e = absurd (refused_given m k (sym e))
-order_given (given o) k e = (o, refl, cc)
+pub kept_count : (a : Answer (List ℕ)) (old : ℕ) → kept (λ n. n) (count_of a) old ≡ kept length a old
+unfolding kept
+kept_count (refused why) old = refl
+kept_count (given o) old = refl

@@ -9,7 +9,7 @@ use Rattle.rules.specs.declared.TableFaults.{TableFaults}
 use Rattle.conditions.specs.declared.Condition.{Condition}
 use Rattle.place_infos.specs.declared.Held.{Held}
 use Rattle.codes.specs.Answered.{number, kept}
-use Rattle.codes.specs.Judged.{bit, place_kind, place_slot}
+use Rattle.codes.specs.Judged.{bit, place_kind, place_slot, fault_rule, fault_entry}
 use Rattle.reads_for_c.specs.Inspected.{NamedEntry, name_of}
 
 -- a number of slots, entries or places
@@ -45,13 +45,13 @@ pub record CopiesTold
   pub tables_left : tables' ≡ kept (λ k. bit k.tables) a tables
   pub pointers_left : pointers' ≡ kept (λ k. bit k.pointers) a pointers
 
--- of each table copy the first rule that it breaks, and the entry that breaks it
+-- of each table copy the first rule that it breaks, and the entry that breaks it; 0 and 127 of one that stands
 pub record FaultsTold (a : Answer TableFaults) (r rule0 rule0' entry0 entry0' rule1 rule1' entry1 entry1' : ℕ) : Type 0 where
   pub returned : r ≡ number a
-  pub rule0_left : rule0' ≡ kept (λ f. f.fault0.rule) a rule0
-  pub entry0_left : entry0' ≡ kept (λ f. f.fault0.entry.0) a entry0
-  pub rule1_left : rule1' ≡ kept (λ f. f.fault1.rule) a rule1
-  pub entry1_left : entry1' ≡ kept (λ f. f.fault1.entry.0) a entry1
+  pub rule0_left : rule0' ≡ kept (λ f. fault_rule f.fault0) a rule0
+  pub entry0_left : entry0' ≡ kept (λ f. fault_entry f.fault0) a entry0
+  pub rule1_left : rule1' ≡ kept (λ f. fault_rule f.fault1) a rule1
+  pub entry1_left : entry1' ≡ kept (λ f. fault_entry f.fault1) a entry1
 
 -- an entry, its name in the front of the lent bytes and counted
 pub record EntryTold

@@ -8,11 +8,8 @@ ghost use Rattle.inspect.specs.Places.{place_total, place_at};
 ghost use Rattle.reads_for_c.specs.Inspected.{named_entry};
 ghost use Rattle.reads_for_c.specs.Told.{CountTold, ViewTold, CopiesTold, FaultsTold, EntryTold, PlaceTold};
 
-use conditions::Inspected;
-use infos::Known;
-use place_infos::Holding;
+use codes::{answers, judgements};
 use rules::{EntryNo, PlaceNo, Setting};
-use views::{Faults, Viewed};
 
 // Where the pointer blocks are, and which copies of table and pointer block are read.
 pub fn view(
@@ -29,10 +26,9 @@ pub fn view(
         table.old table.new
         pointers.old pointers.new }
 {
-    let seen = views::view(image, setting);
-    match seen {
-        Viewed::Refused(why) => why.number,
-        Viewed::At(v) => {
+    match views::view(image, setting) {
+        Err(why) => why.number(),
+        Ok(v) => {
             *cpb0 = v.cpb0;
             *cpb1 = v.cpb1;
             *table = v.table;
@@ -61,11 +57,10 @@ pub fn copies(
         tables.old tables.new
         pointers.old pointers.new }
 {
-    let inspected = conditions::condition_of(image, setting);
-    match inspected {
-        Inspected::Refused(why) => why.number,
-        Inspected::Is(k) => {
-            let bits = codes::judgements::bits_of(k);
+    match conditions::condition_of(image, setting) {
+        Err(why) => why.number(),
+        Ok(k) => {
+            let bits = judgements::bits_of(k);
             *table0 = bits.spt0;
             *table1 = bits.spt1;
             *pointers0 = bits.cpb0;
@@ -93,14 +88,15 @@ pub fn table_faults(
         rule1.old rule1.new
         entry1.old entry1.new }
 {
-    let faults = views::table_faults(image, setting);
-    match faults {
-        Faults::Refused(why) => why.number,
-        Faults::Are(f) => {
-            *rule0 = f.fault0.rule;
-            *entry0 = f.fault0.entry.0;
-            *rule1 = f.fault1.rule;
-            *entry1 = f.fault1.entry.0;
+    match views::table_faults(image, setting) {
+        Err(why) => why.number(),
+        Ok(faults) => {
+            let first = judgements::fault_code(faults.fault0);
+            let second = judgements::fault_code(faults.fault1);
+            *rule0 = first.rule;
+            *entry0 = first.entry;
+            *rule1 = second.rule;
+            *entry1 = second.entry;
             0
         }
     }
@@ -110,7 +106,7 @@ pub fn table_faults(
 pub fn entry_count(image: &[u8], setting: Setting, count: &mut usize) -> u8
     ensures { CountTold (entry_total setting image.now) result count.old count.new }
 {
-    codes::answers::total(inspect::entry::entry_total(image, setting), count)
+    answers::told(inspect::entry::entry_total(image, setting), count)
 }
 
 // The name of an entry up to its zero into the front of the lent bytes, its length, and the entry's start, length and
@@ -134,10 +130,9 @@ pub fn entry(
 {
     let found = inspect::entry::entry_name(image, setting, entry);
     let known = inspect::entry::entry_info(image, setting, entry);
-    let fitting = codes::name_room::fitting(known, found.len(), name.len());
-    match fitting {
-        Known::Refused(why) => why.number,
-        Known::Is(f) => {
+    match codes::name_room::fitting(known, found.len(), name.len()) {
+        Err(why) => why.number(),
+        Ok(f) => {
             text::put_bytes(name, 0, found);
             *count = found.len();
             *start = f.start;
@@ -152,7 +147,7 @@ pub fn entry(
 pub fn place_count(image: &[u8], setting: Setting, count: &mut usize) -> u8
     ensures { CountTold (place_total setting image.now) result count.old count.new }
 {
-    codes::answers::total(inspect::place::place_total(image, setting), count)
+    answers::told(inspect::place::place_total(image, setting), count)
 }
 
 // What a place holds: 0 for erased, 1 for live with its slot, 2 for spent, 3 for part-written, 4 for stray; and its value.
@@ -169,12 +164,10 @@ pub fn place(
         slot.old slot.new
         value.old value.new }
 {
-    let holding = inspect::place::place_at(image, setting, place);
-    match holding {
-        Holding::Refused(why) => why.number,
-        Holding::Is(h) => {
-            let judgement = h.judgement;
-            let code = codes::judgements::place_code(judgement);
+    match inspect::place::place_at(image, setting, place) {
+        Err(why) => why.number(),
+        Ok(h) => {
+            let code = judgements::place_code(h.judgement);
             *kind = code.kind;
             *slot = code.slot;
             *value = h.value;

@@ -4,9 +4,7 @@ ghost use Rattle.rules.specs.Readers.{order_list, slot_count, slot_info};
 ghost use Rattle.reads_for_c.specs.Answered.{Written, name_answer};
 ghost use Rattle.reads_for_c.specs.Told.{CountTold, SlotTold};
 
-use infos::Known;
-use order_lists::Listed;
-use reading::Counted;
+use codes::answers;
 use rules::{Setting, SlotNo};
 
 // The boot order's slot numbers into the front of the row, and how many there are.
@@ -14,28 +12,14 @@ pub fn order(image: &[u8], setting: Setting, row: &mut [u32], count: &mut usize)
     ensures { Written (order_list setting image.now (length row.old)) result
         row.old row.new count.old count.new }
 {
-    let listed = reading::order_list(image, setting, row);
-    match listed {
-        Listed::Refused(why) => why.number,
-        Listed::Count(n) => {
-            *count = n;
-            0
-        }
-    }
+    answers::told(reading::order_list(image, setting, row), count)
 }
 
 // How many application slots there are.
 pub fn slot_count(image: &[u8], setting: Setting, count: &mut usize) -> u8
     ensures { CountTold (slot_count setting image.now) result count.old count.new }
 {
-    let counted = reading::slot_count(image, setting);
-    match counted {
-        Counted::Refused(why) => why.number,
-        Counted::Slots(n) => {
-            *count = n;
-            0
-        }
-    }
+    answers::told(reading::slot_count(image, setting), count)
 }
 
 // The entry number, start, length and flags of a slot.
@@ -54,10 +38,9 @@ pub fn slot_facts(
         size.old size.new
         flags.old flags.new }
 {
-    let known = reading::slot_info(image, setting, slot);
-    match known {
-        Known::Refused(why) => why.number,
-        Known::Is(f) => {
+    match reading::slot_info(image, setting, slot) {
+        Err(why) => why.number(),
+        Ok(f) => {
             *entry = f.entry.0;
             *start = f.start;
             *size = f.size;
@@ -80,10 +63,9 @@ pub fn slot_name(
 {
     let found = reading::slot_name(image, setting, slot);
     let known = reading::slot_info(image, setting, slot);
-    let fitting = codes::name_room::fitting(known, found.len(), name.len());
-    match fitting {
-        Known::Refused(why) => why.number,
-        Known::Is(_) => {
+    match codes::name_room::fitting(known, found.len(), name.len()) {
+        Err(why) => why.number(),
+        Ok(_) => {
             text::put_bytes(name, 0, found);
             *count = found.len();
             0

@@ -7,7 +7,6 @@ use borrow.Author.Tests.{leb-true}
 use Rattle.rules.specs.Answers.{given}
 use Rattle.rules.specs.Readers.{row_after}
 use Rattle.rules.specs.declared.SlotInfo.{SlotInfo}
-use Rattle.infos.specs.Answers.{known}
 use Rattle.inspect.specs.Entries.{entry_info, entry_name}
 use Rattle.codes.specs.Inner.Fitting.{fitting}
 use Rattle.codes.proofs.Numbered.{number-given, kept-given}
@@ -20,31 +19,31 @@ use Rattle.reads_for_c.proofs.inspects.entry.Goals as goal
 unfoldable with_name : List ℕ → SlotInfo → NamedEntry
 with_name it f = record { name = it; info = f }
 
-pub returns-in-Refused : goal.returns-in-Refused
-unfolding known named_entry with_name
-returns-in-Refused c =
+pub returns-in-Err : goal.returns-in-Err
+unfolding named_entry with_name
+returns-in-Err c =
     let a = c.args in
     let info = entry_info a.setting a.image.now a.entry.0 in
     let it = entry_name a.setting a.image.now a.entry.0 in
     let room = length a.name.now in
-    let e = sym (ap known c.in-Refused.is)
-    ∙ c.fitting-fitting.ensures
+    let e = sym c.in-Err.is
+    ∙ c.fitting.ensures
     ∙ ap (λ x. fitting x (length c.entry_name-found.result.now) room) c.entry_info-known.ensures
     ∙ ap (λ x. fitting info (length x) room) c.entry_name-found.ensures in
-    entry_kept a.name.now a.count.now a.start.now a.size.now a.flags.now
+    entry_kept a.name.now a.count.now a.start.now a.size.now a.flags.now c.number.ensures
     (fits_refused (with_name it) info (length it) room e)
 
-pub returns-in-Is : goal.returns-in-Is
-unfolding known named_entry with_name
-returns-in-Is c =
+pub returns-in-Ok : goal.returns-in-Ok
+unfolding named_entry with_name
+returns-in-Ok c =
     let a = c.args in
     let info = entry_info a.setting a.image.now a.entry.0 in
     let it = entry_name a.setting a.image.now a.entry.0 in
     let room = length a.name.now in
     let found = c.entry_name-found.ensures in
     let (fits, e) = fits_given (with_name it) info (length it) room
-    (sym (ap known c.in-Is.is)
-    ∙ c.fitting-fitting.ensures
+    (sym c.in-Ok.is
+    ∙ c.fitting.ensures
     ∙ ap (λ x. fitting x (length c.entry_name-found.result.now) room) c.entry_info-known.ensures
     ∙ ap (λ x. fitting info (length x) room) found) in
     let put = put_front c.put_bytes.ensures (rw found (leb-true (length it) room fits))
