@@ -40,8 +40,8 @@ fn free_place(p: &[u8]) -> PlaceNo
     PlaceNo(0)
 }
 
-// A place such that it and all above are erased. As a rule most places are erased: looked at one by one instead of four
-// at a time, they make an order list of few places miss what docs/COMPARISON.md asks.
+// A place such that it and all above are erased. Most places are, so that this walk is the most of an order list of few
+// slots: one by one, in place of four at a time, it took three times as long.
 #[tactic(auto, using(crate::proofs::Free::none_left, crate::proofs::Free::four_erased))]
 fn erased_from(p: &[u8]) -> PlaceNo
     requires { StandingPointers p.now }
