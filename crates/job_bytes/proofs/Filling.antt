@@ -5,9 +5,7 @@ use Prim.Native.Nat.{ℕ, ◌+◌, ◌≤◌}
 use native.Mathlib.Omega.{arith}
 use lib.ListN.{length, take, drop, length-append, length-drop, take-append-drop, drop_of_length-le}
 use lib.Seq.{take_at, drop_at, drop-drop, length-take-le}
-use Rattle.rules.specs.Bytes.{bytes_of}
 use Rattle.rules.specs.Final.{put_at}
-use Rattle.rules.proofs.Lists.Words.{length-bytes_of}
 
 pub length_stretch : (bs : List ℕ) (k n : ℕ) → k + n ≤ length bs → length (take n (drop k bs)) ≡ n
 length_stretch bs k n h = length-take-le n (drop k bs) (rw length-drop (omega arith))
@@ -35,11 +33,6 @@ module _ {out : List ℕ} {k : ℕ} {front after : List ℕ} (f : Filled out k f
         (rw (drop_at front (drop k out) k f.size, drop-drop) (sym (append_assoc front bs (drop (k + n) out))));
   }
 
-  pub fill_number : {after' : List ℕ} (n v : ℕ)
-      → after' ≡ put_at k (bytes_of n v) after
-      → Filled out (k + n) (front ++ bytes_of n v) after'
-  fill_number n v = fill_put n (bytes_of n v) (length-bytes_of n v)
-
   -- bytes left behind
   pub fill_kept : (n : ℕ) → k + n ≤ length out → Filled out (k + n) (front ++ take n (drop k out)) after
   fill_kept n h =
@@ -59,11 +52,6 @@ module _ {out : List ℕ} {k : ℕ} {front after : List ℕ} (f : Filled out k f
   pub all_filled : length out ≡ k → after ≡ front
   all_filled h =
       f.is ∙ rw (drop_of_length-le out {i = k} (omega arith)) (append-nil front)
-
-  -- all that was filled, put at once
-  pub filled_at_once : after ≡ put_at 0 front out
-  unfolding put_at
-  filled_at_once = let e : 0 + length front ≡ k = omega (arith, f.size) in rw e f.is
 
 -- bytes put where they are
 pub put_own : (at n : ℕ) (out : List ℕ) → at + n ≤ length out → out ≡ put_at at (take n (drop at out)) out
