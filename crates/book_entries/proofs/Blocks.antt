@@ -4,7 +4,7 @@ use mathlib.Core.Bool.{Bool, true, false, cond}
 use mathlib.Core.List.{List}
 use Prim.Native.Nat.{ℕ, ◌≤◌, ◌<◌}
 use native.Mathlib.Omega.{arith}
-use lib.ListN.{length, drop, length-replicate}
+use lib.ListN.{length, get_or, drop, length-replicate}
 use lib.Seq.{take_all}
 use lib.Dec.{leb}
 use borrow.Author.Tests.{leb-true, ltb-true}
@@ -17,8 +17,17 @@ use Rattle.rules.specs.Book.{renamed}
 use Rattle.rules.proofs.Lists.Tests.{by_cases, clash, and_true, same_true, same_of}
 use Rattle.rules.proofs.Table.Standing.{length-entries_from}
 use Rattle.rules.proofs.Table.Renaming.{slot_row_found}
-use Rattle.walks.specs.Entries.{entry_at, most_entries}
-use Rattle.walks.proofs.Entries.{entry_of_rows}
+use Rattle.walks.specs.Entries.{most_entries}
+use Rattle.rules.specs.Bytes.{block}
+use Rattle.rules.specs.Answers.{given}
+use Rattle.rules.specs.Copies.{view}
+use Rattle.rules.specs.declared.Setting.{Setting}
+use Rattle.rules.specs.declared.View.{View}
+use Rattle.rules.proofs.Table.Standing.{standing}
+use Rattle.views.proofs.Seen.{seen, table_read_stands}
+use Rattle.views.proofs.Opening.{located}
+use Rattle.rooms.specs.Inner.Candidates.{Placed}
+use Rattle.walks.specs.Entries.{HasEntries}
 use Rattle.text.specs.Put.{Put}
 use Rattle.text.proofs.Puts.{keeps_length, put_whole}
 use Rattle.book_entries.specs.Tables.{new_name, no_block, has_slot}
@@ -53,22 +62,44 @@ module _ (t : List ℕ) (k : ℕ) (has : has_slot t k ≡ true) where
   unfolding has_slot slot_there
   there = ltb-true k (length (slots (entries t))) (and_true (leb (entry_count t) most_entries) _ has).1
 
+  pub has_entries : length t ≡ block_size → HasEntries t (entry_count t)
+  has_entries whole = record { whole = whole; few = few_entries }
+
+  -- so that one is found
+  pub no_end : slot_row (entries t) k ≡ length (entries t) → ⊥
+  no_end e = omega (arith, e, (slot_row_found (entries t) k there).0)
+
   module _ {e : ℕ} (is_row : e ≡ slot_row (entries t) k) where
+    pub row_there : e < length (entries t)
+    row_there = omega (arith, is_row, (slot_row_found (entries t) k there).0)
+
     pub row_below : e < entry_count t
     unfolding entries
     row_below = omega (arith, is_row, length-entries_from (entry_count t) (drop 0x20 t), (slot_row_found (entries t) k there).0)
 
     -- whether it has the new name already
-    already : has_already (entries t) k new_name ≡ has_name (up_to_zero new_name) (entry_at t e)
+    already : has_already (entries t) k new_name ≡ has_name (up_to_zero new_name) (get_or (entries t) e no_entry)
     unfolding has_already slot_entry entries up_to_zero
-    already = rw (← is_row, entry_of_rows (entry_count t) e t no_entry row_below)
+    already = rw (← is_row)
 
-    pub named_already : has_name (up_to_zero new_name) (entry_at t e) ≡ true
+    pub named_already : has_name (up_to_zero new_name) (get_or (entries t) e no_entry) ≡ true
         → t ≡ cond (has_slot t k) (renamed t k new_name) t
     unfolding renamed
     named_already h = sym (rw (has, already, h))
 
-    pub named_now : has_name (up_to_zero new_name) (entry_at t e) ≡ false
+    pub named_now : has_name (up_to_zero new_name) (get_or (entries t) e no_entry) ≡ false
         → put_name t e new_name ≡ cond (has_slot t k) (renamed t k new_name) t
     unfolding renamed
     named_now h = sym (rw (has, already, h, is_row))
+
+-- ---- where a new slot starts
+
+-- the entries of the table read lie inside the image
+pub placed : (s : Setting) (img : List ℕ) (v : View) (t : List ℕ) → view s img ≡ given v → t ≡ block img v.table → Placed (length img) (entries t)
+placed s img v t h is =
+    let st = standing s (length img) (block img v.table) (table_read_stands s img v (seen s img v h)) in
+    rw is record {
+      short = (located s img v h).short;
+      inside = st.rule6;
+      aligned = st.rule5;
+    }

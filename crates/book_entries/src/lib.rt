@@ -10,8 +10,8 @@ ghost use Rattle.rules.specs.Commands.{size_right, with_new_row, without_row};
 ghost use Rattle.rules.specs.Book.{renamed, start_for};
 ghost use Rattle.book_entries.specs.Tables.{new_name, no_block, has_slot, has_row};
 
+use entries::Entries;
 use rules::{EntryNo, Setting, SlotNo};
-use views::Viewed;
 
 // The new name of every rename.
 pub fn new_name() -> [u8; 15]
@@ -53,7 +53,7 @@ pub fn renamed(table: [u8; rules::BLOCK_SIZE], slot: SlotNo) -> [u8; rules::BLOC
     }
     let e = entry_of(table, slot);
     let name = new_name();
-    if entries::has_name(&table, e, &name) {
+    if Entries::counted(&table).get(e).has_name(&name) {
         return table;
     }
     let mut made = no_block();
@@ -62,14 +62,12 @@ pub fn renamed(table: [u8; rules::BLOCK_SIZE], slot: SlotNo) -> [u8; rules::BLOC
 }
 
 // A table has such a slot, among no more entries than there is room for.
+#[tactic(auto, unfolding(crate::specs::Tables::has_slot, rules::specs::Readers::slot_there))]
 pub fn has_slot(table: [u8; rules::BLOCK_SIZE], slot: SlotNo) -> bool
     ensures { result ≡ has_slot table slot.0 }
 {
-    let n = entries::entry_count(&table);
-    if rules::MOST_ENTRIES < n {
-        return false;
-    }
-    (slot.0 as usize) < slots::count_slots(&table, n)
+    entries::entry_count(&table) <= rules::MOST_ENTRIES
+        && (slot.0 as usize) < slots::count_slots(&Entries::counted(&table))
 }
 
 // The entry of a slot that a table has.
@@ -77,8 +75,10 @@ fn entry_of(table: [u8; rules::BLOCK_SIZE], slot: SlotNo) -> EntryNo
     requires { has_slot table slot.0 ≡ true }
     ensures { result.0 ≡ slot_row (entries table) slot.0 }
 {
-    let n = entries::entry_count(&table);
-    slots::slot_row(&table, n, slot)
+    match slots::slot_row(&Entries::counted(&table), slot) {
+        Some(e) => e,
+        None => EntryNo(entries::entry_count(&table)),
+    }
 }
 
 // A table without the row of a slot that it has.
@@ -87,9 +87,8 @@ pub fn without_slot(table: [u8; rules::BLOCK_SIZE], slot: SlotNo) -> [u8; rules:
     ensures { result ≡ without_row table (slot_row (entries table) slot.0) }
 {
     let e = entry_of(table, slot);
-    let n = entries::entry_count(&table);
     let mut made = no_block();
-    table_rows::put_without_row(&table, n, e, &mut made);
+    table_rows::put_without_row(&table, e, &mut made);
     made
 }
 
@@ -98,17 +97,12 @@ fn start_for(image: &[u8], setting: Setting, size: u64) -> u64
     requires { (size_right size ≡ true) × (size < 0x100000000) }
     ensures { result ≡ start_for setting image.now size }
 {
-    let seen = views::view(image, setting);
-    match seen {
-        Viewed::Refused(_) => 0,
-        Viewed::At(v) => {
-            let table_at = v.table;
-            let pointers_at = v.pointers;
-            let t = fields::block_at(image, table_at);
-            let p = fields::block_at(image, pointers_at);
-            let n = entries::entry_count(t);
-            let places = place_walks::places_of(p);
-            rooms::lowest_start(t, n, p, places, image.len() as u64, size)
+    match views::view(image, setting) {
+        Err(_) => 0,
+        Ok(v) => {
+            let entries = Entries::counted(fields::block_at(image, v.table));
+            let p = place_walks::pointer_block(fields::block_at(image, v.pointers));
+            rooms::lowest_start(&entries, &p, image.len() as u64, size)
         }
     }
 }
@@ -138,6 +132,6 @@ pub fn with_new_slot(
     let start = start_for(image, setting, long);
     let name = new_name();
     let mut made = no_block();
-    table_rows::put_new_row(&table, n, &name, start, long, &mut made);
+    table_rows::put_new_row(&table, &name, start, long, &mut made);
     made
 }

@@ -1,14 +1,12 @@
--- `entry_of` is the entry number of the slot. Assumes nothing.
-use mathlib.Core.Path.{◌∙◌}
-use Rattle.rules.specs.Table.{entries}
-use Rattle.book_entries.proofs.Blocks.{few_entries}
-use borrow.Author.Rules.{rules}
+use Rattle.std.proofs.Common.{rules}
+use Rattle.book_entries.proofs.Blocks.{has_entries, no_end}
 use Rattle.book_entries.proofs.entry_of.Goals as goal
 
-pub slot_row-requires : goal.slot_row-requires
-slot_row-requires c =
-    record { whole = search rules; few = rw c.entry_count-n.ensures (few_entries _ _ c.requires) }
+pub counted-requires : goal.counted-requires
+counted-requires c = has_entries _ _ c.requires (search rules)
 
-pub returns : goal.returns
-unfolding entries
-returns c = c.slot_row.ensures.found ∙ rw c.entry_count-n.ensures
+pub returns-in-Some : goal.returns-in-Some
+returns-in-Some c = rw (← c.counted.ensures) c.in-Some.ensures.some.0
+
+pub returns-in-None : goal.returns-in-None
+returns-in-None c = absurd (no_end _ _ c.requires (rw c.counted.ensures at c.in-None.ensures.none))

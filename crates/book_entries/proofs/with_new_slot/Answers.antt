@@ -27,7 +27,7 @@ put_new_row-requires c =
     let size = c.args.size in
     let room = ltb-true c.entry_count-n.result most_entries
     (and_true (ltb c.entry_count-n.result most_entries) (size_right size) (fits)).0 in (
-      (search rules, (c.entry_count-n.ensures, room)),
+      (search rules, rw (← c.entry_count-n.ensures) room),
       (omega (arith, ap length c.new_name-name.ensures), (omega arith, search rules)),
     )
 
