@@ -28,6 +28,6 @@ pub fn into_places(to: Target, offset: u32, found: PlaceList, value: u64, room: 
     ensures { Means room.new result
         (places_written to.len to.granule offset to.at1 to.at0 found (bytes_of 8 value)) }
 {
-    room[..jobs::PLACES_SIZE].copy_from_slice(&found.places);
+    fields::stores::copy(room, 0, &found.places);
     Draft::IntoPlaces(made::places_plan(to, offset, found.count), value)
 }

@@ -1,44 +1,70 @@
 // Disable, once the view of the flash is known.
-ghost use Rattle.std.specs.Prelude.{◌≡◌, length};
+ghost use Rattle.std.specs.Prelude.{◌≡◌, IfOk, length, get_or};
 ghost use Rattle.rules.specs.Bytes.{block_size};
 ghost use Rattle.rules.specs.Answers.{given};
+ghost use Rattle.rules.specs.Table.{starts};
 ghost use Rattle.rules.specs.Copies.{view};
 ghost use Rattle.rules.specs.Commands.{disable};
-ghost use Rattle.drafts.specs.JobFor.{job_by};
-ghost use Rattle.drafts.specs.Inner.Drafted.{Drafts};
+ghost use Rattle.blocks.specs.Made.{place_list};
+ghost use Rattle.place_lists.specs.Inner.Walked.{places_giving};
+ghost use Rattle.views.specs.Inner.Located.{Located};
+ghost use Rattle.drafts.specs.JobFor.{disable_job, job_by};
+ghost use Rattle.drafts.specs.Inner.Drafted.{job_of, Sound, Means};
 
-use blocks::{made, tables};
-use drafts::{Draft, Outcome};
-use rules::refusals::NOT_IN_ORDER;
-use rules::{Setting, SlotNo, View};
+use blocks::{PlaceList, Target, made, tables};
+use drafts::Draft;
+use places::PointerBlock;
+use rules::{Refusal, Setting, SlotNo, View};
+use slots::Table;
+use views::opened;
 
 // Refusals 6 to 8, or the job of disable: a slot that no place gives is not in the boot order.
-pub fn disable_by(image: &[u8], setting: Setting, v: View, slot: SlotNo, room: &mut [u8]) -> Draft
-    requires { (view setting image.now ≡ given v) × (length room.old ≡ block_size) }
-    ensures { Drafts image.now room.new result (job_by setting image.now v (disable slot.0)) }
+#[tactic(auto, unfolding(rules::specs::Answers::unless), using(drafts::proofs::Asking::disable_asked, drafts::proofs::Locating::pointers_fit))]
+pub fn disable_by(
+    image: &[u8],
+    setting: Setting,
+    v: View,
+    slot: SlotNo,
+    room: &mut [u8],
+) -> Result<Draft, Refusal>
+    requires seen { view setting image.now ≡ given v }
+    requires inside { Located image.now v }
+    requires room { length room.old ≡ block_size }
+    ensures job { job_of image.now room.new result ≡ job_by setting image.now v (disable slot.0) }
+    ensures sound { IfOk result (λ d. Sound image.now d) }
 {
-    let asked = drafts::refusals::ask_slot(image, v, slot);
-    match asked {
-        Outcome::Refused(why) => Draft::Refused(why),
-        Outcome::Started => {
-            let given = drafts::givings::slot_places(image, v, slot);
-            let found = given.found;
-            if found.count == 0 {
-                return Draft::Refused(NOT_IN_ORDER);
-            }
-            let to = made::target(image.len(), setting.granule, v.cpb0, v.cpb1);
-            let table_at = v.table;
-            let pointers_at = v.pointers;
-            let t = fields::block_at(image, table_at);
-            let p = fields::block_at(image, pointers_at);
-            let rows = given.rows;
-            let places = given.places;
-            // A start half cleared that names another slot must not be left by a cut.
-            if tables::half_cleared_names(t, rows.count, given.start) {
-                pointer_blocks::order_without(t, rows, p, places, slot, room);
-                return Draft::Rewritten(made::pair_plan(to));
-            }
-            drafts::into_places(to, places.offset as u32, found, 0, room)
-        }
+    drafts::refusals::ask_slot(image, v, slot)?;
+    let t = opened::table_of(image, v);
+    let p = opened::pointers_of(image, v);
+    let start = tables::slot_start(&t, slot);
+    let found = place_lists::places_giving(&t, &p, slot, start);
+    if found.count == 0 {
+        return Err(Refusal::NotInOrder);
     }
+    let to = made::target(image.len(), setting.granule, v.cpb0, v.cpb1);
+    Ok(disable_job(&t, &p, to, slot, start, found, room))
+}
+
+// The job, by the places that give the slot: they are cleared, or both copies rewritten.
+fn disable_job(
+    t: &Table<'_>,
+    p: &PointerBlock<'_>,
+    to: Target,
+    slot: SlotNo,
+    start: u64,
+    found: PlaceList,
+    room: &mut [u8],
+) -> Draft
+    requires begins { start ≡ get_or (starts t.now) slot.0 0 }
+    requires found { found ≡ place_list (places_giving t.now p.now slot.0) }
+    requires room { length room.old ≡ block_size }
+    ensures { Means room.new result
+        (disable_job to.len to.granule to.at0 to.at1 (starts t.now) p.now slot.0) }
+{
+    // A start half cleared that names another slot must not be left by a cut.
+    if tables::half_cleared_names(t.entries(), start) {
+        pointer_blocks::order_without(t, p, slot, room);
+        return Draft::Rewritten(made::pair_plan(to));
+    }
+    drafts::into_places(to, p.offset() as u32, found, 0, room)
 }
