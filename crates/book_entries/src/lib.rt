@@ -12,6 +12,7 @@ ghost use Rattle.book_entries.specs.Tables.{new_name, no_block, has_slot, has_ro
 
 use entries::Entries;
 use rules::{EntryNo, Setting, SlotNo};
+use views::opened;
 
 // The new name of every rename.
 pub fn new_name() -> [u8; 15]
@@ -100,9 +101,9 @@ fn start_for(image: &[u8], setting: Setting, size: u64) -> u64
     match views::view(image, setting) {
         Err(_) => 0,
         Ok(v) => {
-            let entries = Entries::counted(fields::block_at(image, v.table));
-            let p = place_walks::pointer_block(fields::block_at(image, v.pointers));
-            rooms::lowest_start(&entries, &p, image.len() as u64, size)
+            let t = opened::table_of(image, v);
+            let p = opened::pointers_of(image, v);
+            rooms::lowest_start(t.entries(), &p, image.len() as u64, size)
         }
     }
 }
