@@ -5,11 +5,11 @@ use mathlib.Core.Bool.{Bool, true, false, not}
 use mathlib.Core.List.{List}
 use Prim.Native.Nat.{ℕ, ◌+◌, ◌≤◌, ◌<◌}
 use lib.Dec.{ltb}
-use borrow.Author.Tests.{ltb-true}
+use borrow.Author.Tests.{ltb-true, lt-ltb}
 use lib.ListN.{length, get_or}
 use Rattle.rules.specs.Lists.{member}
 use Rattle.rules.specs.Bytes.{block, block_size}
-use Rattle.rules.specs.Answers.{Answer, given, unless, ◌>>=◌}
+use Rattle.rules.specs.Answers.{Answer, refused, given, unless, ◌>>=◌}
 use Rattle.rules.specs.declared.Setting.{Setting}
 use Rattle.rules.specs.declared.Refusal.{Refusal}
 use Rattle.rules.specs.declared.Refusal.TheVariants.{CopiesDiffer, NoSuchSlot, NotInOrder, NameNotAllowed, NameTaken, SlotEmpty, NoPlaceLeft, IsInOrder}
@@ -111,3 +111,36 @@ module _ (s : Setting) (img : List ℕ) (v : View) (h : view s img ≡ given v) 
       unless IsInOrder (not (ltb 0 (length (giving (starts t) k 0 (places p))))) (given (job_for s.granule img v (delete k))))
   unfolding job_by job
   delete_asked = rw (unless-bind, unless-bind, unless-bind, in_order_by) (asked_by _)
+
+  -- ---- past the refusals
+
+  module _ (asked : slot_asked img v k ≡ given tt) where
+    pub enable_passed : slot_empty img (get_or (starts t) k 0) ≡ false
+        → enough_places (starts t) p k ≡ true
+        → given (job_for s.granule img v (enable k)) ≡ job_by s img v (enable k)
+    unfolding unless
+    enable_passed f e = sym (rw (enable_asked, asked, f, e) refl)
+
+    pub disable_passed : 0 < length (giving (starts t) k 0 (places p))
+        → given (job_for s.granule img v (disable k)) ≡ job_by s img v (disable k)
+    unfolding unless
+    disable_passed l = sym (rw (disable_asked, asked, lt-ltb 0 _ l) refl)
+
+    pub disable_refused : length (giving (starts t) k 0 (places p)) ≡ 0 → refused NotInOrder ≡ job_by s img v (disable k)
+    unfolding unless
+    disable_refused z = sym (rw (disable_asked, asked, z) refl)
+
+    pub delete_refused : 0 < length (giving (starts t) k 0 (places p)) → refused IsInOrder ≡ job_by s img v (delete k)
+    unfolding unless
+    delete_refused l = sym (rw (delete_asked, asked, lt-ltb 0 _ l) refl)
+
+    pub rename_passed : (name : List ℕ) → name_allowed name ≡ true
+        → name_free (entries t) (slot_row (entries t) k) name ≡ true
+        → given (job_for s.granule img v (rename k name)) ≡ job_by s img v (rename k name)
+    unfolding unless
+    rename_passed name a f = sym (rw (rename_asked, asked, a, f) refl)
+
+    pub delete_passed : length (giving (starts t) k 0 (places p)) ≡ 0
+        → given (job_for s.granule img v (delete k)) ≡ job_by s img v (delete k)
+    unfolding unless
+    delete_passed z = sym (rw (delete_asked, asked, z) refl)

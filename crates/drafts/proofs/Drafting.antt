@@ -1,15 +1,17 @@
 -- The drafts of each form, and the jobs that they stand for. Assumes nothing.
-use mathlib.Core.Path.{◌≡◌, ap, ◌∙◌}
+use mathlib.Core.Path.{◌≡◌, ap, ◌∙◌, subst}
 use mathlib.Core.Bool.{true, false}
 use mathlib.Core.List.{List}
 use Prim.Native.Nat.{ℕ, ◌*◌}
 use lib.ListN.{take}
 use Rattle.rules.specs.Bytes.{bytes_of}
 use Rattle.jobs.specs.Jobs.{place_room, lent}
+use Rattle.jobs.specs.declared.Job.{Job}
 use Rattle.job_parts.specs.declared.Plan.{Plan}
 use Rattle.blocks.specs.Made.{erased_block, no_places, no_value, rewrites_plan, rewrites, no_steps, pair_rewritten, places_plan, places_written}
 use Rattle.blocks.specs.declared.PlaceList.{PlaceList}
 use Rattle.drafts.specs.Inner.Drafted.{drafted, Sound, Means}
+use Rattle.drafts.specs.declared.Draft.{Draft}
 use Rattle.drafts.specs.declared.Draft.TheVariants.{NoSteps, Rewritten, IntoPlaces}
 
 module _ (len granule : ℕ) (p : Plan) where
@@ -46,3 +48,7 @@ module _ (len granule : ℕ) (p : Plan) where
         erased_block ks (bytes_of 8 v)) er;
     sound = λ img. (ap (λ (q : Plan). q.first) ep, ap (λ (q : Plan). q.second) ep);
   }
+
+-- a draft that stands for a job stands for whichever is equal to it
+pub means_too : {room : List ℕ} {d : Draft} {j j' : Job} → j ≡ j' → Means room d j → Means room d j'
+means_too {room} {d} e m = subst (λ (j : Job). Means room d j) e m

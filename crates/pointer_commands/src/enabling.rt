@@ -63,8 +63,9 @@ fn enable_job(
     if place_lists::comes_first(t, p, slot) {
         return Draft::NoSteps(made::no_plan(to));
     }
-    if p.free().0 < p.count() {
-        let one = place_lists::one_place(p.free());
+    let free = p.free();
+    if free.0 < p.count() {
+        let one = place_lists::one_place(free);
         return drafts::into_places(to, p.offset() as u32, one, start, room);
     }
     pointer_blocks::order_with_first(t, p, slot, start, room);
