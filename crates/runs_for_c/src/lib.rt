@@ -5,6 +5,7 @@ ghost use Rattle.runs_for_c.specs.Counted.{Counted};
 ghost use Rattle.runs_for_c.specs.Ran.{lent, running, RanAs};
 ghost use Rattle.runs_for_c.specs.Told.{RemainingTold, NextTold};
 
+use codes::answers::told;
 use codes::steps::step_code;
 use job_fields::job_in;
 
@@ -14,13 +15,7 @@ pub fn run(job: &mut [u8], image: &mut [u8], budget: usize, done: &mut usize) ->
         (lent job.new image.new done.new)
         (running job.old image.old) }
 {
-    match held_jobs::run(job, image, budget) {
-        Err(why) => why.number(),
-        Ok(n) => {
-            *done = n;
-            0
-        }
-    }
+    told(held_jobs::run(job, image, budget), done)
 }
 
 // How many steps remain.
@@ -59,11 +54,5 @@ pub fn next_step(job: &[u8], kind: &mut u8, address: &mut usize, byte: &mut u8) 
 pub fn advance(job: &mut [u8], steps: usize, count: &mut usize) -> u8
     ensures { Counted steps result job.old job.new count.old count.new }
 {
-    match held_jobs::advance(job, steps) {
-        Err(why) => why.number(),
-        Ok(n) => {
-            *count = n;
-            0
-        }
-    }
+    told(held_jobs::advance(job, steps), count)
 }
