@@ -7,9 +7,8 @@ ghost use Rattle.text.specs.Put.{Put};
 ghost use Rattle.dead_places.specs.DeadLines.{numbered};
 ghost use Rattle.report.specs.Listing.{listing, listing_for, parts, refusal, slot_line, info_text};
 
-use infos::Known;
 use rules::{Setting, SlotNo, View};
-use views::Viewed;
+use views::opened;
 
 // What the listing program has fixed. More bytes than the limit are refused.
 const GRANULE: usize = 4096;
@@ -44,10 +43,9 @@ pub fn listing_for(image: &[u8], setting: Setting, out: &mut [u8]) -> usize
     ensures told { Put out.old 0 (listing_for setting image.now) out.new result }
     ensures inside { (result ≤ length out.new) × (result ≡ length (take result out.new)) }
 {
-    let seen = views::view(image, setting);
-    match seen {
-        Viewed::Refused(why) => put_refusal(out, why.number),
-        Viewed::At(v) => put_parts(image, setting, v, out),
+    match views::view(image, setting) {
+        Err(why) => put_refusal(out, why.number()),
+        Ok(v) => put_parts(image, setting, v, out),
     }
 }
 
@@ -56,15 +54,13 @@ fn put_parts(image: &[u8], setting: Setting, v: View, out: &mut [u8]) -> usize
     requires { Located image.now v }
     ensures { Put out.old 0 (parts setting image.now v) out.new result }
 {
-    let t = fields::block_at(image, v.table);
-    let p = fields::block_at(image, v.pointers);
-    let rows = slots::rows_of(t);
-    let places = place_walks::places_of(p);
-    let mut row = [0u32; 127];
-    let count = boot_order::write_order(t, rows, p, places, &mut row);
+    let t = opened::table_of(image, v);
+    let p = opened::pointers_of(image, v);
+    let mut row = [0; rules::MOST_ENTRIES];
+    let count = boot_order::write_order(&t, &p, &mut row);
     let mut end = text::put_bytes(out, 0, b"order slot name start length\n");
-    end = put_lines(image, setting, &row, count, out, end);
-    dead_places::put_dead(t, rows, p, places, out, end)
+    end = put_lines(image, setting, &row[..count], out, end);
+    dead_places::put_dead(&t, &p, out, end)
 }
 
 fn put_refusal(out: &mut [u8], number: u8) -> usize
@@ -75,24 +71,14 @@ fn put_refusal(out: &mut [u8], number: u8) -> usize
     text::put_byte(out, end, b'\n')
 }
 
-// A line for each of the first `count` slots of the row.
-fn put_lines(
-    image: &[u8],
-    setting: Setting,
-    row: &[u32],
-    count: usize,
-    out: &mut [u8],
-    at: usize,
-) -> usize
-    requires { count ≤ length row.now }
-    ensures { Put out.old at (numbered (slot_line setting image.now) 1 (take count row.now))
+// A line for each slot of the row.
+fn put_lines(image: &[u8], setting: Setting, row: &[u32], out: &mut [u8], at: usize) -> usize
+    ensures { Put out.old at (numbered (slot_line setting image.now) 1 row.now)
         out.new result }
 {
     let mut end = at;
-    let mut i = 0;
-    while i < count {
+    for i in 0..row.len() {
         end = put_line(image, setting, i + 1, SlotNo(row[i]), out, end);
-        i += 1;
     }
     end
 }
@@ -118,10 +104,9 @@ fn put_line(
 fn put_info(image: &[u8], setting: Setting, slot: SlotNo, out: &mut [u8], at: usize) -> usize
     ensures { Put out.old at (info_text setting image.now slot.0) out.new result }
 {
-    let known = reading::slot_info(image, setting, slot);
-    match known {
-        Known::Refused(_) => text::put_byte(out, at, b'\n'),
-        Known::Is(info) => {
+    match reading::slot_info(image, setting, slot) {
+        Err(_) => text::put_byte(out, at, b'\n'),
+        Ok(info) => {
             let mut end = text::put_byte(out, at, b' ');
             end = text::put_decimal(out, end, info.start);
             end = text::put_byte(out, end, b' ');

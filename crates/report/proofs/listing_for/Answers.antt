@@ -1,26 +1,15 @@
--- `listing_for` puts the line of a refusal, or the two parts by where things are. Assumes nothing.
-use Rattle.views.proofs.Opening.{was_viewed, was_refused, opened}
 use Rattle.report.specs.Listing.{listing_by, listing_for}
 use Rattle.report.proofs.Inside.{with_inside}
 use Rattle.report.proofs.listing_for.Goals as goal
 
-pub returns-in-Refused : goal.returns-in-Refused
+pub returns-in-Err-clause-told : goal.returns-in-Err-clause-told
 unfolding listing_by listing_for
-returns-in-Refused c =
+returns-in-Err-clause-told c =
     let (told, inside) = with_inside c.put_refusal.ensures in
-    record {
-      told = rw (was_refused _ _ c.view-seen.ensures c.in-Refused.is) told;
-      inside = inside;
-    }
+    rw (← c.view.ensures.value, c.in-Err.is) (rw c.number.ensures at told)
 
-pub returns-in-At : goal.returns-in-At
+pub returns-in-Ok-clause-told : goal.returns-in-Ok-clause-told
 unfolding listing_by listing_for
-returns-in-At c =
+returns-in-Ok-clause-told c =
     let (told, inside) = with_inside c.put_parts.ensures in
-    record {
-      told = rw (was_viewed _ _ c.view-seen.ensures c.in-At.is) told;
-      inside = inside;
-    }
-
-pub put_parts-requires : goal.put_parts-requires
-put_parts-requires c = opened _ _ c.view-seen.ensures c.in-At.is
+    rw (← c.view.ensures.value, c.in-Ok.is) told
