@@ -62,6 +62,7 @@ fn six_fault(entries: &Entries<'_>, setting: Setting) -> Option<Fault>
 }
 
 // Rule 8.
+#[tactic(auto, unfolding(rules::specs::Table::six_named, rules::specs::Table::six_names, rules::specs::Table::boot_info, rules::specs::Table::factory_image, rules::specs::Table::spt0_name, rules::specs::Table::spt1_name, rules::specs::Table::cpb0_name, rules::specs::Table::cpb1_name, rules::specs::Bytes::up_to_zero, rules::specs::Lists::all))]
 fn six_are_named(entries: &Entries<'_>) -> bool
     ensures { result ≡ six_named entries.now }
 {

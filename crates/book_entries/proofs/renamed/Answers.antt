@@ -14,7 +14,8 @@ counted-requires c = has_entries _ _ (passed c.has_slot.ensures (ap not c.if-not
 
 pub get-requires : goal.get-requires
 get-requires c =
-    rw c.counted.ensures (row_there _ _ (passed c.has_slot.ensures (ap not c.if-not-has_slot.false)) c.entry_of-e.ensures)
+    let there = row_there _ _ (passed c.has_slot.ensures (ap not c.if-not-has_slot.false)) c.entry_of-e.ensures in
+    omega (arith, there, ap length c.counted.ensures)
 
 pub returns-then-has_name : goal.returns-then-has_name
 returns-then-has_name c =
