@@ -29,6 +29,7 @@ pub fn same_bytes(a: &[u8], b: &[u8]) -> bool
     check::same(a, b)
 }
 
+#[tactic(auto, unfolding(crate::specs::Tables::no_block))]
 pub fn no_block() -> [u8; rules::BLOCK_SIZE]
     ensures { result ≡ no_block }
 {
@@ -109,6 +110,7 @@ fn start_for(image: &[u8], setting: Setting, size: u64) -> u64
 }
 
 // A row is left, and the length of a new slot is right.
+#[tactic(auto, unfolding(crate::specs::Tables::has_row))]
 fn has_row(n: usize, size: u64) -> bool
     ensures { result ≡ has_row n size }
 {
