@@ -6,7 +6,11 @@ use mathlib.Core.List.{List}
 use Prim.Native.Nat.{ℕ, ◌+◌, ◌≤◌, ◌<◌}
 use lib.Dec.{ltb}
 use borrow.Author.Tests.{ltb-true, lt-ltb}
+use native.Mathlib.Omega.{arith}
 use lib.ListN.{length, get_or}
+use Rattle.std.specs.Prelude.{Option, Some, None, is_some}
+use Rattle.rules.specs.declared.EntryNo.{EntryNo}
+use Rattle.entries.specs.Tests.{Found}
 use Rattle.rules.specs.Lists.{member}
 use Rattle.rules.specs.Bytes.{block, block_size}
 use Rattle.rules.specs.Answers.{Answer, refused, given, unless, ◌>>=◌}
@@ -59,6 +63,16 @@ module _ (img : List ℕ) (v : View) (k : ℕ) (asked : slot_asked img v k ≡ g
 
   pub row_counted : slot_row (entries (block img v.table)) k < length (entries (block img v.table))
   row_counted = (slot_row_found (entries (block img v.table)) k slot_counted).0
+
+  pub row_found : {r : Option EntryNo} → Found (entries (block img v.table)) (slot_row (entries (block img v.table)) k) r → is_some r ≡ true
+  row_found {r = None} f = absurd (omega (arith, f.none, row_counted))
+  row_found {r = Some e} f = refl
+
+  -- what is found is its row
+  pub row_is : {r : Option EntryNo} {e : EntryNo} → r ≡ Some e → Found (entries (block img v.table)) (slot_row (entries (block img v.table)) k) r
+      → e.0 ≡ slot_row (entries (block img v.table)) k
+  row_is {r = None} q f = absurd (let z : ◌≡◌ {A = ℕ} 0 1 = cc in omega arith)
+  row_is {r = Some x} {e} q f = let z : x ≡ e = cc in rw (← z) f.some.0
 
   pub begins_inside : (s : Setting) → view s img ≡ given v
       → get_or (starts (block img v.table)) k 0 + block_size ≤ length img

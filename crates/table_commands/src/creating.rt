@@ -1,49 +1,60 @@
 // Create, once the view of the flash is known.
-ghost use Rattle.std.specs.Prelude.{◌≡◌, length};
+ghost use Rattle.std.specs.Prelude.{◌≡◌, true, not, IfOk, length};
 ghost use Rattle.rules.specs.Bytes.{block_size};
 ghost use Rattle.rules.specs.Answers.{given};
+ghost use Rattle.rules.specs.Lists.{any};
+ghost use Rattle.rules.specs.Table.{has_name};
 ghost use Rattle.rules.specs.Copies.{view};
-ghost use Rattle.rules.specs.Commands.{create};
+ghost use Rattle.rules.specs.Commands.{create, name_allowed};
 ghost use Rattle.views.specs.Inner.Located.{Located};
 ghost use Rattle.drafts.specs.JobFor.{job_by};
-ghost use Rattle.drafts.specs.Inner.Drafted.{Drafts};
-ghost use Rattle.drafts.specs.Inner.Asked.{outcome, new_asked};
+ghost use Rattle.drafts.specs.Inner.Asked.{new_asked};
+ghost use Rattle.drafts.specs.Inner.Drafted.{job_of, Sound};
 
+use super::is_free;
 use blocks::{made, tables};
-use drafts::{Draft, Outcome};
-use rules::refusals::{
-    COPIES_DIFFER, LENGTH_WRONG, NAME_NOT_ALLOWED, NAME_TAKEN, NO_ROW_LEFT, NO_START,
-};
-use rules::{EntryNo, Setting, View};
+use drafts::Draft;
+use entries::Entries;
+use rules::{EntryNo, Refusal, Setting, View};
+use views::opened;
 
 // Refusals 6, 9, 10, 40 and 41: both pairs agree, the name may be given and no entry has it, the length is right, and a
 // row is left.
-fn ask_new(image: &[u8], v: View, name: &[u8], size: u64) -> Outcome
+#[tactic(auto, unfolding(drafts::specs::Inner::Asked::new_asked, rules::specs::Answers::unless))]
+fn ask_new(image: &[u8], v: View, name: &[u8], size: u64) -> Result<(), Refusal>
     requires { Located image.now v }
-    ensures { outcome result ≡ new_asked image.now v name.now size }
+    ensures { result ≡ new_asked image.now v name.now size }
 {
-    if !(copies::same_blocks(image, v.spt0, v.spt1) & copies::same_blocks(image, v.cpb0, v.cpb1)) {
-        return Outcome::Refused(COPIES_DIFFER);
+    if !drafts::refusals::copies_equal(image, v) {
+        return Err(Refusal::CopiesDiffer);
     }
     if !tables::name_allowed(name) {
-        return Outcome::Refused(NAME_NOT_ALLOWED);
+        return Err(Refusal::NameNotAllowed);
     }
-    let at = v.table;
-    let t = fields::block_at(image, at);
-    let n = entries::entry_count(t);
-    if !tables::name_free(t, n, EntryNo(n), name) {
-        return Outcome::Refused(NAME_TAKEN);
+    let t = opened::table_of(image, v);
+    if !is_new(t.entries(), name) {
+        return Err(Refusal::NameTaken);
     }
     if !rooms::size_right(size) {
-        return Outcome::Refused(LENGTH_WRONG);
+        return Err(Refusal::LengthWrong);
     }
-    if rules::MOST_ENTRIES <= n {
-        return Outcome::Refused(NO_ROW_LEFT);
+    if rules::MOST_ENTRIES <= entries::entry_count(t.bytes()) {
+        return Err(Refusal::NoRowLeft);
     }
-    Outcome::Started
+    Ok(())
+}
+
+// No entry has the name, which may be given.
+#[tactic(auto, using(crate::proofs::NewAsked::free_of_all))]
+fn is_new(entries: &Entries<'_>, name: &[u8]) -> bool
+    requires { name_allowed name.now ≡ true }
+    ensures { result ≡ not (any (has_name name.now) entries.now) }
+{
+    is_free(entries, EntryNo(entries.len()), name)
 }
 
 // These, then 42, or the job of create: the lowest start, and the table with the new row.
+#[tactic(auto, unfolding(rules::specs::Answers::unless), using(crate::proofs::NewAsked::create_asked, drafts::proofs::Locating::tables_fit, crate::proofs::NewAsked::placed))]
 pub fn create_by(
     image: &[u8],
     setting: Setting,
@@ -51,29 +62,23 @@ pub fn create_by(
     name: &[u8],
     size: u32,
     room: &mut [u8],
-) -> Draft
-    requires { (view setting image.now ≡ given v) × (length room.old ≡ block_size) }
-    ensures { Drafts image.now room.new result (job_by setting image.now v (create name.now size)) }
+) -> Result<Draft, Refusal>
+    requires seen { view setting image.now ≡ given v }
+    requires inside { Located image.now v }
+    requires room { length room.old ≡ block_size }
+    ensures job { job_of image.now room.new result ≡ job_by setting image.now v (create name.now size) }
+    ensures sound { IfOk result (λ d. Sound image.now d) }
 {
     let long = size as u64;
-    let asked = ask_new(image, v, name, long);
-    match asked {
-        Outcome::Refused(why) => Draft::Refused(why),
-        Outcome::Started => {
-            let table_at = v.table;
-            let pointers_at = v.pointers;
-            let t = fields::block_at(image, table_at);
-            let p = fields::block_at(image, pointers_at);
-            let n = entries::entry_count(t);
-            let places = place_walks::places_of(p);
-            let len = image.len() as u64;
-            let start = rooms::lowest_start(t, n, p, places, len, long);
-            if len <= start {
-                return Draft::Refused(NO_START);
-            }
-            let to = made::target(image.len(), setting.granule, v.spt0, v.spt1);
-            table_rows::put_new_row(t, n, name, start, long, room);
-            Draft::Rewritten(made::pair_plan(to))
-        }
+    ask_new(image, v, name, long)?;
+    let t = opened::table_of(image, v);
+    let p = opened::pointers_of(image, v);
+    let len = image.len() as u64;
+    let start = rooms::lowest_start(t.entries(), &p, len, long);
+    if len <= start {
+        return Err(Refusal::NoStart);
     }
+    let to = made::target(image.len(), setting.granule, v.spt0, v.spt1);
+    table_rows::put_new_row(t.bytes(), name, start, long, room);
+    Ok(Draft::Rewritten(made::pair_plan(to)))
 }

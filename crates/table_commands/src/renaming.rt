@@ -1,21 +1,25 @@
 // Rename, once the view of the flash is known.
-ghost use Rattle.std.specs.Prelude.{◌≡◌, ◌≤◌, ◌<◌, cond, length};
+ghost use Rattle.std.specs.Prelude.{◌≡◌, IfOk, ◌≤◌, ◌<◌, cond, length, get_or};
 ghost use Rattle.rules.specs.Bytes.{block_size, up_to_zero};
 ghost use Rattle.rules.specs.Answers.{given};
-ghost use Rattle.rules.specs.Table.{has_name};
+ghost use Rattle.rules.specs.Table.{entries, has_name, no_entry};
 ghost use Rattle.rules.specs.Copies.{view};
 ghost use Rattle.rules.specs.Commands.{put_name, rename};
-ghost use Rattle.walks.specs.Entries.{entry_at, most_entries};
+ghost use Rattle.walks.specs.Entries.{most_entries};
 ghost use Rattle.blocks.specs.Made.{no_steps, pair_rewritten};
+ghost use Rattle.views.specs.Inner.Located.{Located};
 ghost use Rattle.drafts.specs.JobFor.{job_by};
-ghost use Rattle.drafts.specs.Inner.Drafted.{Drafts, Means};
+ghost use Rattle.drafts.specs.Inner.Drafted.{job_of, Sound, Means};
 
+use super::is_free;
 use blocks::{Target, made, tables};
-use drafts::{Draft, Outcome};
-use rules::refusals::{NAME_NOT_ALLOWED, NAME_TAKEN};
-use rules::{EntryNo, Setting, SlotNo, View};
+use drafts::Draft;
+use rules::{EntryNo, Refusal, Setting, SlotNo, View};
+use slots::Table;
+use views::opened;
 
 // Refusals 6, 7, 9 and 10, or the job of rename.
+#[tactic(auto, unfolding(rules::specs::Answers::unless), using(drafts::proofs::Asking::rename_asked, drafts::proofs::Asking::row_found, drafts::proofs::Locating::tables_fit, crate::proofs::NewAsked::short_if_allowed))]
 pub fn rename_by(
     image: &[u8],
     setting: Setting,
@@ -23,43 +27,41 @@ pub fn rename_by(
     slot: SlotNo,
     name: &[u8],
     room: &mut [u8],
-) -> Draft
-    requires { (view setting image.now ≡ given v) × (length room.old ≡ block_size) }
-    ensures { Drafts image.now room.new result (job_by setting image.now v (rename slot.0 name.now)) }
+) -> Result<Draft, Refusal>
+    requires seen { view setting image.now ≡ given v }
+    requires inside { Located image.now v }
+    requires room { length room.old ≡ block_size }
+    ensures job { job_of image.now room.new result ≡ job_by setting image.now v (rename slot.0 name.now) }
+    ensures sound { IfOk result (λ d. Sound image.now d) }
 {
-    let asked = drafts::refusals::ask_slot(image, v, slot);
-    match asked {
-        Outcome::Refused(why) => Draft::Refused(why),
-        Outcome::Started => {
-            if !tables::name_allowed(name) {
-                return Draft::Refused(NAME_NOT_ALLOWED);
-            }
-            let table_at = v.table;
-            let t = fields::block_at(image, table_at);
-            let n = entries::entry_count(t);
-            let row = slots::slot_row(t, n, slot);
-            if !tables::name_free(t, n, row, name) {
-                return Draft::Refused(NAME_TAKEN);
-            }
-            let to = made::target(image.len(), setting.granule, v.spt0, v.spt1);
-            rename_job(t, row, name, to, room)
-        }
+    drafts::refusals::ask_slot(image, v, slot)?;
+    if !tables::name_allowed(name) {
+        return Err(Refusal::NameNotAllowed);
     }
+    let t = opened::table_of(image, v);
+    let row = t.row_of(slot).unwrap();
+    if !is_free(t.entries(), row, name) {
+        return Err(Refusal::NameTaken);
+    }
+    let to = made::target(image.len(), setting.granule, v.spt0, v.spt1);
+    Ok(rename_job(&t, row, name, to, room))
 }
 
 // The job, by the table read and the entry of the slot: no steps where it has the name already.
-fn rename_job(t: &[u8], row: EntryNo, name: &[u8], to: Target, room: &mut [u8]) -> Draft
-    requires { ((length t.now ≡ block_size) × (row.0 < most_entries))
-        × ((length name.now ≤ 16) × (length room.old ≡ block_size)) }
-    ensures { Means room.new result (given
-        (cond (has_name (up_to_zero name.now) (entry_at t.now row.0))
+fn rename_job(t: &Table<'_>, row: EntryNo, name: &[u8], to: Target, room: &mut [u8]) -> Draft
+    requires row { row.0 < length (entries t.now) }
+    requires few { length (entries t.now) ≤ most_entries }
+    requires name { length name.now ≤ 16 }
+    requires room { length room.old ≡ block_size }
+    ensures { Means room.new result
+        (cond (has_name (up_to_zero name.now) (get_or (entries t.now) row.0 no_entry))
         (no_steps to.len to.granule)
         (pair_rewritten to.len to.granule to.at0 to.at1
-        (put_name t.now row.0 name.now)))) }
+        (put_name t.now row.0 name.now))) }
 {
-    if entries::has_name(t, row, name) {
+    if t.entries().get(row).has_name(name) {
         return Draft::NoSteps(made::no_plan(to));
     }
-    tables::put_name(t, row, name, room);
+    tables::put_name(t.bytes(), row, name, room);
     Draft::Rewritten(made::pair_plan(to))
 }

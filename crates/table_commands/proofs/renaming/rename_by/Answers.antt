@@ -1,135 +1,36 @@
--- `rename_by` refuses or starts rename as its definition says. Assumes nothing.
-use mathlib.Core.Path.{refl}
-use Prim.Native.Nat.{◌≤◌}
+-- Past the refusals the job is that of rename. Assumes nothing.
+use mathlib.Core.Path.{◌≡◌, sym, ap, ◌∙◌}
+use mathlib.Core.Bool.{true, not}
 use native.Mathlib.Omega.{arith}
-use lib.ListN.{length}
-
 use Rattle.rules.specs.Bytes.{block}
-use Rattle.rules.specs.Table.{entry_count}
-use Rattle.rules.specs.Commands.{rename}
-use Rattle.rules.proofs.Table.Renaming.{allowed}
-use Rattle.walks.specs.Entries.{most_entries}
-use Rattle.walks.proofs.Joined.{failed, passed}
-use Rattle.blocks.proofs.Naming.{whole_name}
-use Rattle.views.specs.Inner.Located.{Located}
-use Rattle.views.proofs.Opening.{located, has_entries}
+use Rattle.rules.specs.Answers.{given}
+use Rattle.rules.specs.Table.{entries}
+use Rattle.rules.specs.Readers.{slot_row}
+use Rattle.rules.specs.Commands.{name_allowed, name_free}
+use Rattle.rules.proofs.Table.Standing.{length-entries}
+use Rattle.walks.proofs.Joined.{passed}
+use Rattle.drafts.specs.JobFor.{job_for}
+use Rattle.drafts.specs.Inner.Asked.{slot_asked}
+use Rattle.drafts.proofs.Asking.{row_is, rename_passed}
+use Rattle.table_commands.proofs.NewAsked.{whole_if_allowed}
 use Rattle.table_commands.proofs.RenameJob.{rename_by_row}
-use Rattle.drafts.proofs.Locating.{tables_fit}
-use Rattle.drafts.proofs.Drafting.{drafts_refused}
-use Rattle.drafts.proofs.Asking.{rename-refused, rename-refused_9, rename-refused_10, rename_started, row_below}
-use mathlib.Core.Path.{ap}
-use mathlib.Core.Bool.{not}
 use Rattle.table_commands.proofs.renaming.rename_by.Goals as goal
-use Rattle.rules.specs.declared.Refusal.TheVariants.{NameNotAllowed, NameTaken}
 
-pub ask_slot-asked-requires : goal.ask_slot-asked-requires
-ask_slot-asked-requires c =
-    let where_blocks_are : Located c.args.image.now c.args.v =
-    located c.args.setting c.args.image.now c.args.v c.requires.0 in
-    where_blocks_are
+pub rename_job-requires-clause-few : goal.rename_job-requires-clause-few
+rename_job-requires-clause-few c =
+    rw c.table_of-t.ensures (omega (arith, length-entries (block c.args.image.now c.args.v.table), c.requires.inside.count_right))
 
-pub returns-then-not-name_allowed : goal.returns-then-not-name_allowed
-returns-then-not-name_allowed c =
+pub returns-clause-job : goal.returns-clause-job
+unfolding job_for
+returns-clause-job c =
     let a = c.args in
-    let img = a.image.now in
-    let st = a.setting in
-    let t = block img a.v.table in
-    drafts_refused st img a.v (rename a.slot.0 a.name.now) _ NameNotAllowed
-    (rename-refused_9 st img a.v c.requires.0 a.slot.0 c.ask_slot-asked.result
-    c.ask_slot-asked.ensures c.in-Started.is t
-    (entry_count t) refl refl a.name.now (failed c.name_allowed.ensures (ap not c.if-not-name_allowed.true)))
-
-pub block_at-t-requires : goal.block_at-t-requires
-block_at-t-requires c =
-    let where_blocks_are : Located c.args.image.now c.args.v =
-    located c.args.setting c.args.image.now c.args.v c.requires.0 in
-    (where_blocks_are).table_inside
-
-pub slot_row-row-requires : goal.slot_row-row-requires
-slot_row-row-requires c =
-    let where_blocks_are : Located c.args.image.now c.args.v =
-    located c.args.setting c.args.image.now c.args.v c.requires.0 in
-    has_entries (where_blocks_are) c.block_at-t.result.now
-    c.entry_count-n.result c.block_at-t.ensures c.entry_count-n.ensures
-
-pub name_free-requires : goal.name_free-requires
-name_free-requires c =
-    let where_blocks_are : Located c.args.image.now c.args.v =
-    located c.args.setting c.args.image.now c.args.v c.requires.0 in
-    has_entries (where_blocks_are) c.block_at-t.result.now
-    c.entry_count-n.result c.block_at-t.ensures c.entry_count-n.ensures
-
-pub returns-then-not-name_free : goal.returns-then-not-name_free
-returns-then-not-name_free c =
-    let a = c.args in
-    let img = a.image.now in
-    let st = a.setting in
-    let name_right = passed c.name_allowed.ensures (ap not c.if-not-name_allowed.false) in
-    let whole = whole_name a.name.now (allowed a.name.now name_right).without_zero in
-    drafts_refused st img a.v (rename a.slot.0 a.name.now) _ NameTaken
-    (rename-refused_10 st img a.v c.requires.0 a.slot.0 c.ask_slot-asked.result
-    c.ask_slot-asked.ensures c.in-Started.is
-    c.block_at-t.result.now c.entry_count-n.result c.block_at-t.ensures.0
-    c.entry_count-n.ensures a.name.now name_right
-    (failed (rw (c.slot_row-row.ensures.found, whole) at c.name_free.ensures)
-    (ap not c.if-not-name_free.true)))
-
-pub target-to-requires : goal.target-to-requires
-target-to-requires c =
-    let where_blocks_are : Located c.args.image.now c.args.v =
-    located c.args.setting c.args.image.now c.args.v c.requires.0 in tables_fit (where_blocks_are)
-
-pub rename_job-requires : goal.rename_job-requires
-rename_job-requires c =
-    let where_blocks_are : Located c.args.image.now c.args.v =
-    located c.args.setting c.args.image.now c.args.v c.requires.0 in
-    let l = where_blocks_are in
-    let a = c.args in
-    let img = a.image.now in
-    let st = a.setting in
-    let name_right = passed c.name_allowed.ensures (ap not c.if-not-name_allowed.false) in
-    let few : c.entry_count-n.result ≤ most_entries = rw
-    (c.entry_count-n.ensures, c.block_at-t.ensures.0) l.count_right in
-    let row = row_below st img a.v c.requires.0 a.slot.0 c.ask_slot-asked.result
-    c.ask_slot-asked.ensures c.in-Started.is
-    c.block_at-t.result.now c.entry_count-n.result
-    c.block_at-t.ensures.0 c.entry_count-n.ensures
-    c.slot_row-row.result.0 c.slot_row-row.ensures.found in
-    ((c.block_at-t.ensures.1, omega (arith, row)), (omega (arith, (allowed a.name.now name_right).short), c.requires.1))
-
-pub returns-in-Refused : goal.returns-in-Refused
-returns-in-Refused c =
-    let a = c.args in
-    let img = a.image.now in
-    let st = a.setting in
-    drafts_refused st img a.v (rename a.slot.0 a.name.now) _ c.in-Refused.why
-    (rename-refused st img a.v c.requires.0 a.slot.0 c.ask_slot-asked.result
-    c.ask_slot-asked.ensures a.name.now
-    c.in-Refused.why c.in-Refused.is)
-
-pub returns-else-not-name_free : goal.returns-else-not-name_free
-returns-else-not-name_free c =
-    let a = c.args in
-    let img = a.image.now in
-    let st = a.setting in
-    let t = c.block_at-t.result.now in
-    let n = c.entry_count-n.result in
-    let row = c.slot_row-row.result.0 in
-    let name_right = passed c.name_allowed.ensures (ap not c.if-not-name_allowed.false) in
-    let whole = whole_name a.name.now (allowed a.name.now name_right).without_zero in
-    let row_counted = row_below st img a.v c.requires.0 a.slot.0 c.ask_slot-asked.result
-    c.ask_slot-asked.ensures
-    c.in-Started.is t n c.block_at-t.ensures.0
-    c.entry_count-n.ensures row c.slot_row-row.ensures.found in
-    rename_started st img a.v c.requires.0 a.slot.0 c.ask_slot-asked.result
-    c.ask_slot-asked.ensures c.in-Started.is t n
-    c.block_at-t.ensures.0 c.entry_count-n.ensures a.name.now name_right
-    (passed (rw (c.slot_row-row.ensures.found, whole) at c.name_free.ensures)
-    (ap not c.if-not-name_free.false))
-    _ c.rename_job.result
-    (rw (
-      c.target-to.ensures,
-      rename_by_row (length img) a.setting.granule a.v.spt0 a.v.spt1 a.slot.0 row n t a.name.now
-          c.entry_count-n.ensures c.slot_row-row.ensures.found row_counted whole,
-    )
-    at c.rename_job.ensures)
+    let t = block a.image.now a.v.table in
+    let right : name_allowed a.name.now ≡ true = passed c.name_allowed.ensures (ap not c.if-not-name_allowed.false) in
+    let asked : slot_asked a.image.now a.v a.slot.0 ≡ given tt = sym c.ask_slot.ensures ∙ c.in_ok-ask_slot.was in
+    let row : c.unwrap-row.result.0 ≡ slot_row (entries t) a.slot.0 =
+    row_is a.image.now a.v a.slot.0 asked c.unwrap-row.ensures (rw c.table_of-t.ensures at c.row_of.ensures) in
+    let free : name_free (entries t) (slot_row (entries t) a.slot.0) a.name.now ≡ true =
+    rw (row, c.entries.ensures, c.table_of-t.ensures) at (passed c.is_free.ensures (ap not c.if-not-is_free.false)) in
+    ap given (c.rename_job.ensures.job a.image.now)
+    ∙ rw (c.target-to.ensures, c.table_of-t.ensures, rename_by_row _ _ _ _ a.slot.0 _ t a.name.now row (whole_if_allowed a.name.now right))
+    (rename_passed a.setting a.image.now a.v c.requires.seen a.slot.0 asked a.name.now right free)
