@@ -1,7 +1,0 @@
--- `start_repair` starts the command that it names. Assumes nothing.
-use Rattle.commands.specs.Begins.{command_of}
-use Rattle.commands.proofs.start_repair.Goals as goal
-
-pub returns : goal.returns
-unfolding command_of
-returns c = c.start.ensures
