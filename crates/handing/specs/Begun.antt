@@ -4,9 +4,6 @@ use Rattle.rules.specs.Answers.{Answer, refused, given, unless, number_of}
 use Rattle.rules.specs.declared.Step.{Step}
 use Rattle.jobs.specs.declared.Job.{Job}
 use Rattle.blocks.specs.Made.{Lists}
-use Rattle.commands.specs.declared.StartResult.{StartResult}
-use Rattle.drafts.specs.declared.Outcome.{Outcome}
-use Rattle.drafts.specs.declared.Outcome.TheVariants.{Started, Refused}
 use Rattle.job_bytes.specs.Form.{job_size, malformed, decoded, encoded_over}
 
 -- the number returned, and every byte of the buffer
@@ -18,14 +15,14 @@ abbrev pub handed : ℕ → List ℕ → Handed
 handed number buffer = record { number = number; buffer = buffer }
 
 -- a refusal leaves the buffer as it was; else 0, and the job is put into it: what its steps do not use stays
-unfoldable pub handed_over : List ℕ → Job → Outcome → Handed
-handed_over before j (Refused why) = handed (number_of why) before
-handed_over before j Started = handed 0 (encoded_over before j)
+unfoldable pub handed_over : List ℕ → Answer Job → Handed
+handed_over before (refused why) = handed (number_of why) before
+handed_over before (given j) = handed 0 (encoded_over before j)
 
 -- a command's start over bytes: refused 90 where the buffer has another length than a job's
-unfoldable pub started_into : List ℕ → StartResult → Handed
-started_into before b =
-    cond (eqb (length before) job_size) (handed_over before b.job b.answer) (handed (number_of malformed) before)
+unfoldable pub started_into : List ℕ → Answer Job → Handed
+started_into before a =
+    cond (eqb (length before) job_size) (handed_over before a) (handed (number_of malformed) before)
 
 -- ---- the same by the listed steps, as theorem `begun_holds` has it
 

@@ -17,31 +17,31 @@ use Rattle.rules.proofs.Claim.Bridge.{never_refused_12}
 use Rattle.rules.proofs.Claim.Viewing.{viewed, beginning, holds_at_first}
 use Rattle.rules.proofs.Claim.OneItem.{one_item}
 use Rattle.rules.proofs.Claim.EveryJob.{the_commands_right}
+use Rattle.blocks.specs.Made.{Lists}
 use Rattle.commands.specs.Begins.{Begins}
-use Rattle.commands.specs.declared.StartResult.{StartResult}
+use Rattle.jobs.specs.declared.Job.{Job}
 use Rattle.joined.specs.Runs.{AllRan, left_by_runs}
-use Rattle.joined.specs.Items.{Carried, BegunSo, CarriedOut, flash_left, ended_as, ending, item_of}
-use Rattle.joined.proofs.Runs.{runs_of_job, nothing_done}
+use Rattle.joined.specs.Items.{Carried, BegunSo, RunsOf, CarriedOut, left_of, flash_left, ended_as, ending, item_of}
+use Rattle.joined.proofs.Runs.{runs_of_job}
 
 -- what the contract of a start gives is enough
-pub begins_so : (b : StartResult) (len g : ℕ) (a : Answer (List Step)) → Begins b len g a → BegunSo b len g a
+pub begins_so : (b : Answer Job) (len g : ℕ) (a : Answer (List Step)) → Begins b len g a → BegunSo b len g a
 unfolding Begins BegunSo
 begins_so b len g (refused why) e = (why, e, refl)
 begins_so b len g (given ss) h = h
 
 module _ (s : Setting) (img : List ℕ) (c : Carried) where
   -- runs of a started job leave exactly the image and the steps of the book's progress
-  runs_are_progress : (ss : List Step)
+  runs_are_progress : (ss : List Step) (j : Job)
       → Bytes img
       → NameBytes c.command
       → start s img c.command ≡ given ss
-      → BegunSo c.begun (length img) s.granule (given ss)
-      → AllRan c.begun.job img c.runs
-      → left_by_runs c.begun.job img c.runs ≡ progress s.granule (item_of c) img ss
-  unfolding BegunSo progress item_of
-  runs_are_progress ss bytes names e (answer, lists) went =
-      runs_of_job s.granule ss c.begun.job img c.runs lists
-      (never_refused_12 s img c.command ss bytes names e) went
+      → Lists j (length img) s.granule ss
+      → AllRan j img c.runs
+      → left_by_runs j img c.runs ≡ progress s.granule (item_of c) img ss
+  unfolding progress item_of
+  runs_are_progress ss j bytes names e lists went =
+      runs_of_job s.granule ss j img c.runs lists (never_refused_12 s img c.command ss bytes names e) went
 
   abbrev Same : Answer (List Step) → Type 0
   Same a =
@@ -49,21 +49,22 @@ module _ (s : Setting) (img : List ℕ) (c : Carried) where
       × (ending img c ≡ ended_by s.granule (item_of c) img a)
 
   when_given : (ss : List Step)
+      → Bytes img
+      → NameBytes c.command
+      → start s img c.command ≡ given ss
       → BegunSo c.begun (length img) s.granule (given ss)
-      → left_by_runs c.begun.job img c.runs ≡ progress s.granule (item_of c) img ss
+      → RunsOf c.begun img c.runs
       → Same (given ss)
-  unfolding BegunSo flash_left ending ended_as left_by ended_by item_of
-  when_given ss (answer, lists) left =
-      (ap (dropped s.granule c.wiped) left, rw answer (ap (λ (p : Progress). how_ended p.left) left))
+  unfolding BegunSo RunsOf flash_left left_of ending ended_as left_by ended_by item_of
+  when_given ss bytes names e (j, begun, lists) went =
+      let left = runs_are_progress ss j bytes names e lists (rw begun at went) in
+      (rw begun (ap (dropped s.granule c.wiped) left), rw begun (ap (λ (p : Progress). how_ended p.left) left))
 
   when_refused : (why : Refusal)
       → BegunSo c.begun (length img) s.granule (refused why)
-      → AllRan c.begun.job img c.runs
       → Same (refused why)
-  unfolding BegunSo flash_left ending ended_as left_by ended_by dropped half_done
-  when_refused why (told, e, _) went =
-      let none = nothing_done img c.runs (rw e at went) in
-      (rw e (ap (dropped s.granule c.wiped) none), rw e)
+  unfolding BegunSo flash_left left_of ending ended_as left_by ended_by dropped half_done
+  when_refused why (told, e, _) = (rw e, rw e)
 
   pub item_by_code : Bytes img
       → NameBytes c.command
@@ -76,8 +77,8 @@ module _ (s : Setting) (img : List ℕ) (c : Carried) where
           → start s img c.command ≡ a
           → BegunSo c.begun (length img) s.granule a
           → Same (start s img c.command)
-      by_answer (refused why) e b = rw e (when_refused why b went)
-      by_answer (given ss) e b = rw e (when_given ss b (runs_are_progress ss bytes names e b went))
+      by_answer (refused why) e b = rw e (when_refused why b)
+      by_answer (given ss) e b = rw e (when_given ss bytes names e b went)
 
 -- an item leaves bytes
 pub still_bytes : (s : Setting) (img : List ℕ) (r : Reading) (i : Item the_commands)

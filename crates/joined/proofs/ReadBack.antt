@@ -15,9 +15,7 @@ use Rattle.rules.specs.Readers.{order_in, order_list, row_after, table_of, table
 use Rattle.rules.specs.Book.{Reading, read_by, reading}
 use Rattle.rules.specs.declared.View.{View}
 use Rattle.rules.proofs.Lists.Tests.{bind_given, given_inj, refused_given}
-use Rattle.order_lists.specs.Answers.{listed, count_of}
-use Rattle.order_lists.specs.declared.Listed.{Listed}
-use Rattle.order_lists.specs.declared.Listed.TheVariants.{Count, Refused}
+use Rattle.order_lists.specs.Answers.{count_of}
 use Rattle.joined.specs.ReadOut.{ReadOut, ReadFrom, seen, Answers}
 use Rattle.rules.specs.declared.Refusal.TheVariants.{RowTooShort}
 
@@ -28,10 +26,10 @@ with_order t a = a >>= λ o. given (record { table = t; boot = o })
 -- what the caller has is the table part and the order that the order list was to give
 seen_by : (x : ReadOut) (a : Answer (List ℕ)) (t : List ℕ)
     → x.part ≡ t
-    → listed x.answer ≡ count_of a
+    → x.answer ≡ count_of a
     → x.row_left ≡ row_after a x.row
     → seen x ≡ with_order t a
-unfolding seen count_of row_after
+unfolding seen row_after
 seen_by x (refused why) t p l w = rw l
 seen_by x (given o) t p l w = rw (l, p, w, take_at o (drop (length o) x.row) (length o) refl)
 
@@ -59,9 +57,8 @@ module _ (s : Setting) (img : List ℕ) where
   -- what `table_read` and `order_list` tell of a flash is the book's reading of it, unless the row was too short
   pub seen_is_reading : (x : ReadOut)
       → ReadFrom s img x
-      → (listed x.answer ≡ refused RowTooShort → ⊥)
+      → (x.answer ≡ refused RowTooShort → ⊥)
       → seen x ≡ reading s img
-  unfolding count_of
   seen_is_reading x from fits =
       seen_by x (order_list s img (length x.row)) (table_part s img) from.part from.answer from.written
       ∙ reading_by (length x.row) (λ e. fits (from.answer ∙ rw e))
@@ -75,7 +72,7 @@ module _ (s : Setting) (img : List ℕ) where
         rw (ev, ap (λ (x : Reading). x.boot) same, le-leb (length r.boot) room fits)
 
     pub readers_answer : reading s img ≡ given r → Answers s img r
-    unfolding Answers count_of
+    unfolding Answers
     readers_answer e x from fits =
         let o = order_there (length x.row) e fits in
         seen_is_reading x from
@@ -83,26 +80,18 @@ module _ (s : Setting) (img : List ℕ) where
 
     -- nothing is lost: where the readers tell a reading, that is the reading of the flash
     pub answers_read : Answers s img r → reading s img ≡ given r
-    unfolding Answers listed seen
+    unfolding Answers seen
     answers_read told =
         let e = told x from (rw length-replicate (omega arith)) in
         sym (seen_is_reading x from (λ h. refused_given RowTooShort r (sym (short h) ∙ e))) ∙ e
       where
-        as_listed : Answer ℕ → Listed
-        as_listed (refused why) = Refused why
-        as_listed (given n) = Count n
-
-        listed_as : (a : Answer ℕ) → listed (as_listed a) ≡ a
-        listed_as (refused why) = refl
-        listed_as (given n) = refl
-
         row : List ℕ
         row = replicate (length r.boot) 0
 
         x : ReadOut
         x = record {
           part = table_part s img;
-          answer = as_listed (count_of (order_list s img (length row)));
+          answer = count_of (order_list s img (length row));
           row = row;
           row_left = row_after (order_list s img (length row)) row;
         }
@@ -110,9 +99,9 @@ module _ (s : Setting) (img : List ℕ) where
         from : ReadFrom s img x
         from = record {
           part = refl;
-          answer = listed_as (count_of (order_list s img (length row)));
+          answer = refl;
           written = refl;
         }
 
-        short : listed x.answer ≡ refused RowTooShort → seen x ≡ refused RowTooShort
+        short : x.answer ≡ refused RowTooShort → seen x ≡ refused RowTooShort
         short h = rw h

@@ -15,8 +15,7 @@ use Rattle.rules.proofs.Steps.Cutting.{under_way as started_with}
 use Rattle.jobs.specs.Jobs.{Ran, steps_of, under_way, admitted, ran, progress_after, RanBy}
 use Rattle.jobs.specs.declared.Job.{Job}
 use Rattle.job_parts.specs.declared.Plan.{Plan}
-use Rattle.blocks.specs.Made.{Lists, no_job}
-use Rattle.blocks.proofs.JobSteps.{no_job_sound}
+use Rattle.blocks.specs.Made.{Lists}
 use Rattle.joined.specs.Runs.{Run, AllRan, left_by_runs}
 use Rattle.rules.specs.declared.Refusal.TheVariants.{NoStepsLeft}
 
@@ -83,19 +82,3 @@ unfolding under_way
 runs_of_job g ss j img rs lists only =
     from_progress g (length img) rs j img (started_with img ss) (rw lists.steps) lists.same_len
     lists.same_granule only
-
--- ---- beside a refusal: the job of no steps
-
-runs_of_none : (g : ℕ) (ns : List ℕ) (img : List ℕ) → runs g ns (started_with img []) ≡ started_with img []
-unfolding runs
-runs_of_none g [] img = refl
-runs_of_none g (n ∷ ns) img = rw (run_of_none g n img) (runs_of_none g ns img)
-
-pub nothing_done : (img : List ℕ) (rs : List Run)
-    → AllRan no_job img rs
-    → left_by_runs no_job img rs ≡ started_with img []
-nothing_done img rs went =
-    from_progress 0 0 rs no_job img (started_with img []) (unfold under_way in rw no_job_sound.lists.steps)
-    no_job_sound.lists.same_len no_job_sound.lists.same_granule
-    (λ ns. rw (runs_of_none 0 ns img) (unfold may_run unless in refl)) went
-    ∙ runs_of_none 0 (budgets_of rs) img

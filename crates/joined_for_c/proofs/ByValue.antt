@@ -18,12 +18,12 @@ use Rattle.rules.proofs.Lists.Tests.{given_inj, unless-given}
 use Rattle.jobs.specs.Jobs.{under_way, admitted, steps_done, advanced, ran, progress_after, RanBy, did_by_run, image_after_run}
 use Rattle.jobs.specs.declared.Job.{Job}
 use Rattle.jobs.proofs.Running.{run_returned}
-use Rattle.blocks.specs.Made.{Lists, no_job}
+use Rattle.blocks.specs.Made.{Lists}
 use Rattle.job_bytes.specs.Form.{job_size, malformed, job_from, holds_job, decoded}
 use Rattle.handing.specs.Begun.{for_job, BegunAs}
 use Rattle.runs_for_c.specs.Ran.{lent, running, RanAs}
 use Rattle.joined.specs.Runs.{AllRan}
-use Rattle.joined.specs.Items.{BegunSo, CarriedOut, flash_left, AllCarriedOut}
+use Rattle.joined.specs.Items.{BegunSo, RunsOf, CarriedOut, flash_left, AllCarriedOut}
 use Rattle.joined_for_c.specs.Items.{refusals, first_numbered, RunForC, AllRanForC, CarriedForC, BegunForC, RunsAfter, CarriedOutForC, numbered, did_by, run_by_value, begun_by_value, by_value, AllCarriedOutForC}
 use Rattle.rules.proofs.Claim.RefusalNumbers.{NotZero, start_not_zero, run_not_zero, OfARun, run_refusals}
 
@@ -158,28 +158,24 @@ lists_by_value number before after len granule ss (none, (j, holds, lists)) =
 module _ (s : Setting) (img : List ℕ) (c : CarriedForC) where
   abbrev Carry : Answer (List Step) → Type 0
   Carry a =
-      BegunSo (by_value c).begun (length img) s.granule a × AllRan (by_value c).begun.job img (by_value c).runs
-
-  no_runs : (j : Job) → c.runs ≡ [] → AllRan j img (map run_by_value c.runs)
-  unfolding AllRan
-  no_runs j e = rw e tt
+      BegunSo (by_value c).begun (length img) s.granule a × RunsOf (by_value c).begun img (by_value c).runs
 
   item_refused : (n : ℕ) (why : Refusal) → 0 < n → c.number ≡ n → n ≡ number_of why
       → RunsAfter c.number c.begun img c.runs
       → Carry (refused why)
-  unfolding BegunSo by_value begun_by_value RunsAfter
+  unfolding BegunSo RunsOf by_value begun_by_value RunsAfter
   item_refused zero why positive number same none = absurd (omega (arith, positive))
   item_refused (suc n) why positive number same none =
-      rw number ((numbered (suc n), refl, rw same (number_again why)), no_runs no_job (rw number at none))
+      rw number ((numbered (suc n), refl, rw same (number_again why)), rw (rw number at none))
 
   item_started : (ss : List Step)
       → BegunAs c.number c.buffer c.begun (length img) s.granule (given ss)
       → RunsAfter c.number c.begun img c.runs
       → Carry (given ss)
-  unfolding BegunSo by_value begun_by_value RunsAfter
+  unfolding BegunSo RunsOf by_value begun_by_value RunsAfter
   item_started ss begun went =
       let (number, (holds, lists)) = lists_by_value c.number c.buffer c.begun (length img) s.granule ss begun in
-      rw number ((refl, lists), runs_by_value c.runs c.begun img holds (rw number at went))
+      rw number ((job_from c.begun, refl, lists), runs_by_value c.runs c.begun img holds (rw number at went))
 
   pub item_by_value : CarriedOutForC s img c → CarriedOut s img (by_value c)
   unfolding CarriedOutForC BegunForC for_job unless CarriedOut by_value

@@ -7,8 +7,7 @@ use Rattle.rules.specs.declared.Refusal.{Refusal}
 use Rattle.rules.specs.declared.Refusal.TheVariants.{BadLength, BadGranule, BadAddresses, NoPointers, CopiesDiffer, NoSuchSlot, NotInOrder, NameNotAllowed, NameTaken, NoStepsLeft, OutsideImage, RowTooShort, SlotEmpty, NoPlaceLeft, LengthWrong, NoRowLeft, NoStart, IsInOrder, NoMagic, NoTable, NotAJob, NameTooLong, NoSuchEntry, NoSuchPlace}
 use Rattle.rules.specs.declared.Setting.{Setting}
 use Rattle.rules.specs.Commands.{Command, start}
-use Rattle.commands.specs.Begins.{refusal, started}
-use Rattle.commands.specs.declared.StartResult.{StartResult}
+use Rattle.jobs.specs.declared.Job.{Job}
 use Rattle.job_bytes.specs.Form.{job_size, job_from}
 use Rattle.handing.specs.Begun.{for_job, BegunAs}
 use Rattle.runs_for_c.specs.Ran.{Lent, lent, running, RanAs}
@@ -93,9 +92,9 @@ run_by_value r = record {
   image = r.left.image;
 }
 
-unfoldable pub begun_by_value : ℕ → List ℕ → StartResult
-begun_by_value zero bytes = started (job_from bytes)
-begun_by_value (suc n) bytes = refusal (numbered (suc n))
+unfoldable pub begun_by_value : ℕ → List ℕ → Answer Job
+begun_by_value zero bytes = given (job_from bytes)
+begun_by_value (suc n) bytes = refused (numbered (suc n))
 
 unfoldable pub by_value : CarriedForC → Carried
 by_value c = record {
