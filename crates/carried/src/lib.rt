@@ -8,7 +8,6 @@ ghost use Rattle.carried.specs.Carrying.{RanTwice, CarriedTwice, ReadOutBy};
 
 use commands::Command;
 use jobs::Job;
-use order_lists::Listed;
 use rules::{Refusal, Setting};
 
 // Two runs of a job, the second with the job that the first left.
@@ -24,7 +23,7 @@ pub fn run_twice(
     job.run(image, second)
 }
 
-// Any command started, and two runs of its job: the job then, and what the second answered.
+// Any command started, and two runs of its job: the job then, and what the second answered; or the start's refusal.
 pub fn carry_out(
     image: &mut [u8],
     setting: Setting,
@@ -32,19 +31,17 @@ pub fn carry_out(
     name: &[u8],
     first: usize,
     second: usize,
-) -> (Job, Result<usize, Refusal>)
+) -> Result<(Job, Result<usize, Refusal>), Refusal>
     ensures { CarriedTwice setting (command_of command name.now) image.old first second
-        (after_call result.0 result.1)
-        image.new }
+        result image.new }
 {
-    let begun = commands::start(image, setting, command, name);
-    let mut job = begun.job;
+    let mut job = commands::start(image, setting, command, name)?;
     let did = run_twice(&mut job, image, first, second);
-    (job, did)
+    Ok((job, did))
 }
 
 // The two readers asked on one flash.
-pub fn read_out(image: &[u8], setting: Setting, row: &mut [u32]) -> Listed
+pub fn read_out(image: &[u8], setting: Setting, row: &mut [u32]) -> Result<usize, Refusal>
     ensures { ReadOutBy setting image.now result row.old row.new }
 {
     let _ = reading::table_read(image, setting);

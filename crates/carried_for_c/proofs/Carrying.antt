@@ -8,7 +8,7 @@ use Rattle.rules.specs.declared.Setting.{Setting}
 use Rattle.rules.specs.Commands.{Command}
 use Rattle.rules.specs.Book.{NameBytes, AllProper}
 use Rattle.job_bytes.specs.Form.{job_size}
-use Rattle.commands.specs.Begins.{start_result}
+use Rattle.commands.specs.Begins.{start_answer}
 use Rattle.handing.specs.Begun.{handed, started_into}
 use Rattle.runs_for_c.specs.Ran.{Lent, lent, running, RanAs}
 use Rattle.handing.proofs.Beginning.{begun_holds}
@@ -57,7 +57,7 @@ module _ (s : Setting) (command : Command) (number : ℕ) (l : Lent) (begun : Li
       → Bytes l.image
       → NameBytes command
       → length l.job ≡ job_size
-      → handed number begun ≡ started_into l.job (start_result s l.image command)
+      → handed number begun ≡ started_into l.job (start_answer s l.image command)
       → RanIfStarted number (lent begun l.image l.done) first second l'
       → CarriedTwiceForC s command number l first second l'
   unfolding RanIfStarted CarriedTwiceForC CarriedOutForC BegunForC

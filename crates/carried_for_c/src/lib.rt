@@ -4,7 +4,7 @@
 #![tactic(auto)]
 
 ghost use Rattle.std.specs.Prelude.{◌≡◌, length};
-ghost use Rattle.commands.specs.Begins.{command_of, start_result};
+ghost use Rattle.commands.specs.Begins.{command_of, start_answer};
 ghost use Rattle.job_bytes.specs.Form.{job_size};
 ghost use Rattle.handing.specs.Begun.{handed, started_into};
 ghost use Rattle.runs_for_c.specs.Ran.{lent};
@@ -36,7 +36,7 @@ pub fn run_if_started(
 pub fn begin(image: &[u8], setting: Setting, command: Command, name: &[u8], job: &mut [u8]) -> u8
     ensures { handed result job.new
         ≡ started_into job.old
-        (start_result setting image.now (command_of command name.now)) }
+        (start_answer setting image.now (command_of command name.now)) }
 {
     let granule = setting.granule;
     let spt0 = setting.spt0;

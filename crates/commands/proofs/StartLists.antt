@@ -22,7 +22,7 @@ abbrev Right : Setting → List ℕ → Answer Job → Answer (List Step) → Ty
 Right s img r a = Begins r (length img) s.granule a × IfOk r (λ j. Typed j)
 
 start_right : (s : Setting) (img : List ℕ) (c : Command) → Right s img (start_answer s img c) (start s img c)
-unfolding start Begins
+unfolding start job_by Begins
 start_right s img c = by_view (view s img) refl
   where
     by_job : (v : View) → view s img ≡ given v → (a : Answer (List Step)) → job s img v c ≡ a
@@ -34,7 +34,6 @@ start_right s img c = by_view (view s img) refl
 
     by_view : (a : Answer View) → view s img ≡ a
         → Right s img (a >>= λ v. job_by s img v c) (a >>= λ v. job s img v c)
-    unfolding job_by
     by_view (refused why) e = (refl, tt)
     by_view (given v) e = by_job v e (job s img v c) refl
 

@@ -27,12 +27,7 @@ pub enum Command {
 }
 
 // Any of the commands; only a rename and a create look at the name.
-pub fn start(
-    image: &[u8],
-    setting: Setting,
-    command: Command,
-    name: &[u8],
-) -> Result<Job, Refusal>
+pub fn start(image: &[u8], setting: Setting, command: Command, name: &[u8]) -> Result<Job, Refusal>
     ensures { result ≡ start_answer setting image.now (command_of command name.now) }
 {
     let mut room = blocks::bytes::erased_block();
@@ -61,7 +56,7 @@ pub fn draft_command(
         Command::Rename(slot) => renaming::rename_by(image, setting, v, slot, name, room),
         Command::Create(size) => creating::create_by(image, setting, v, name, size, room),
         Command::Delete(slot) => deleting::delete_by(image, setting, v, slot, room),
-        Command::Repair => repair_command::repair_by(image, setting, v, room),
+        Command::Repair => Ok(repair_command::repair_by(image, setting, v)),
     }
 }
 
@@ -96,12 +91,7 @@ pub fn start_rename(
 
 // Create a slot of a length: it comes last in the table, at the lowest start that is free and that no place holds.
 #[tactic(auto, unfolding(crate::specs::Begins::command_of))]
-pub fn start_create(
-    image: &[u8],
-    setting: Setting,
-    name: &[u8],
-    size: u32,
-) -> Result<Job, Refusal>
+pub fn start_create(image: &[u8], setting: Setting, name: &[u8], size: u32) -> Result<Job, Refusal>
     ensures { result ≡ start_answer setting image.now (create name.now size) }
 {
     start(image, setting, Command::Create(size), name)

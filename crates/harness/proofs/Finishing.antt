@@ -11,7 +11,6 @@ use Rattle.rules.specs.Lists.{all}
 use Rattle.rules.specs.Bytes.{Bytes}
 use Rattle.rules.specs.Answers.{Answer, refused, given, unless}
 use Rattle.rules.specs.declared.Setting.{Setting}
-use Rattle.rules.specs.declared.Refusal.{Refusal}
 use Rattle.rules.specs.Commands.{Command, start}
 use Rattle.rules.specs.Steps.{steps}
 use Rattle.rules.specs.Cuts.{Progress, run, runs}
@@ -23,12 +22,10 @@ use Rattle.jobs.specs.Jobs.{Ran, under_way, admitted, steps_done, ran, progress_
 use Rattle.jobs.specs.declared.Job.{Job}
 use Rattle.blocks.specs.Made.{Lists}
 use Rattle.commands.specs.Begins.{command_of, Begins}
-use Rattle.commands.specs.declared.StartResult.{StartResult}
 use Rattle.commands.specs.declared.Command.{Command as Asked}
 use Rattle.commands.proofs.NameLent.{bytes_lent}
-use Rattle.drafts.specs.declared.Outcome.TheVariants.{Started, Refused as NotStarted}
 use Rattle.book_entries.specs.Tables.{new_name}
-use Rattle.harness.specs.Finished.{finished, left_finished, done_by, left_by, done_after, left_after, done_begun, left_begun}
+use Rattle.harness.specs.Finished.{finished, left_finished, done_by, left_by, done_begun, left_begun}
 use Rattle.rules.specs.declared.Refusal.TheVariants.{NoStepsLeft}
 
 -- ---- the name is of bytes
@@ -52,21 +49,6 @@ ran_all (suc n) j img after r (m, p) some = (
   unfold done_by in ap (λ (x : Ran). x.did) m,
   unfold left_by under_way in ap (λ (x : Progress). x.image) p,
 )
-
-module _ (b : StartResult) (img : List ℕ) where
-  pub start_refused : (why : Refusal) → b.answer ≡ NotStarted why
-      → (refused why ≡ done_begun b img) × (img ≡ left_begun b img)
-  unfolding done_begun left_begun
-  start_refused why e = (rw e (unfold done_after in refl), rw e (unfold left_after in refl))
-
-  pub start_run : (n : ℕ) (d : Answer ℕ) (after : List ℕ)
-      → b.answer ≡ Started
-      → n ≡ steps_left b.job
-      → (d ≡ done_by n b.job img) × (after ≡ left_by n b.job img)
-      → (d ≡ done_begun b img) × (after ≡ left_begun b img)
-  unfolding done_begun left_begun
-  start_run n d after e left (p, q) =
-      (p ∙ rw (left, e) (unfold done_after in refl), q ∙ rw (left, e) (unfold left_after in refl))
 
 -- ---- all steps of a job
 
@@ -95,7 +77,7 @@ all_steps g img j (s ∷ l) lists may =
 
 -- ---- a command
 
-module _ (s : Setting) (img : List ℕ) (c : Command) (b : StartResult) (bytes : Bytes img) (names : NameBytes c)
+module _ (s : Setting) (img : List ℕ) (c : Command) (b : Answer Job) (bytes : Bytes img) (names : NameBytes c)
     (begun : Begins b (length img) s.granule (start s img c)) where
   pub finishes : (done_begun b img ≡ finished (start s img c))
       × (left_begun b img ≡ left_finished s.granule img (start s img c))
@@ -103,12 +85,11 @@ module _ (s : Setting) (img : List ℕ) (c : Command) (b : StartResult) (bytes :
     where
       by_answer : (a : Answer (List Step)) → start s img c ≡ a → Begins b (length img) s.granule a
           → (done_begun b img ≡ finished a) × (left_begun b img ≡ left_finished s.granule img a)
-      by_answer (refused why) e h =
-          unfold Begins done_begun left_begun done_after left_after finished left_finished in (rw h, rw h)
+      by_answer (refused why) e h = unfold Begins done_begun left_begun finished left_finished in (rw h, rw h)
       by_answer (given ss) e h =
-          unfold Begins done_begun left_begun done_after left_after left_finished in
-          (let (answer, lists) = h in
-          let may : admitted b.job img ≡ unless NoStepsLeft (ltb 0 (length ss)) (given (under_way b.job img)) =
+          unfold Begins done_begun left_begun left_finished in
+          (let (j, is, lists) = h in
+          let may : admitted j img ≡ unless NoStepsLeft (ltb 0 (length ss)) (given (under_way j img)) =
           unfold admitted under_way runs in
           rw (lists.steps, lists.same_len, lists.same_granule) (never_refused_12 s img c ss bytes names e []) in
-          rw answer (all_steps s.granule img b.job ss lists may))
+          rw is (all_steps s.granule img j ss lists may))

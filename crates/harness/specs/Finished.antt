@@ -5,9 +5,6 @@ use Rattle.rules.specs.Steps.{steps}
 use Rattle.rules.specs.declared.Step.{Step}
 use Rattle.jobs.specs.Jobs.{did_by_run, image_after_run, steps_left}
 use Rattle.jobs.specs.declared.Job.{Job}
-use Rattle.commands.specs.declared.StartResult.{StartResult}
-use Rattle.drafts.specs.declared.Outcome.{Outcome}
-use Rattle.drafts.specs.declared.Outcome.TheVariants.{Started, Refused as NotStarted}
 
 -- ---- a command
 
@@ -31,17 +28,11 @@ unfoldable pub left_by : ℕ → Job → List ℕ → List ℕ
 left_by zero j img = img
 left_by (suc n) j img = image_after_run j (suc n) img
 
-unfoldable pub done_after : Outcome → Job → List ℕ → Answer ℕ
-done_after (NotStarted why) j img = refused why
-done_after Started j img = done_by (steps_left j) j img
-
-unfoldable pub left_after : Outcome → Job → List ℕ → List ℕ
-left_after (NotStarted why) j img = img
-left_after Started j img = left_by (steps_left j) j img
-
 -- the same of what a start returned
-unfoldable pub done_begun : StartResult → List ℕ → Answer ℕ
-done_begun b img = done_after b.answer b.job img
+unfoldable pub done_begun : Answer Job → List ℕ → Answer ℕ
+done_begun (refused why) img = refused why
+done_begun (given j) img = done_by (steps_left j) j img
 
-unfoldable pub left_begun : StartResult → List ℕ → List ℕ
-left_begun b img = left_after b.answer b.job img
+unfoldable pub left_begun : Answer Job → List ℕ → List ℕ
+left_begun (refused why) img = img
+left_begun (given j) img = left_by (steps_left j) j img

@@ -5,27 +5,28 @@ pub mod tearing; // a half-done erase
 
 ghost use Rattle.std.specs.Prelude.{◌≡◌};
 ghost use Rattle.rules.specs.Commands.{start};
-ghost use Rattle.commands.specs.Begins.{command_of, start_result};
+ghost use Rattle.jobs.specs.Jobs.{steps_left};
+ghost use Rattle.commands.specs.Begins.{command_of, start_answer};
 ghost use Rattle.book_entries.specs.Tables.{new_name};
 ghost use Rattle.harness.specs.Finished.{finished, left_finished, done_by, left_by, done_begun, left_begun};
 
-use commands::{Command, StartResult};
-use drafts::Outcome;
+use commands::Command;
 use jobs::Job;
 use rules::{Refusal, Setting};
 
 // Starts a command; every rename is to the same name.
-pub fn begin(image: &[u8], setting: Setting, command: Command) -> StartResult
-    ensures { result ≡ start_result setting image.now (command_of command new_name) }
+pub fn begin(image: &[u8], setting: Setting, command: Command) -> Result<Job, Refusal>
+    ensures { result ≡ start_answer setting image.now (command_of command new_name) }
 {
-    let name = book_entries::new_name();
-    commands::start(image, setting, command, &name)
+    commands::start(image, setting, command, &book_entries::new_name())
 }
 
-// Runs a job of which so many steps remain: all of them in one run, and none where none remains.
-fn run_job(image: &mut [u8], mut job: Job, left: usize) -> Result<usize, Refusal>
-    ensures { (result ≡ done_by left job image.old) × (image.new ≡ left_by left job image.old) }
+// All the steps of a job in one run, and none where none remains.
+fn run_job(image: &mut [u8], mut job: Job) -> Result<usize, Refusal>
+    ensures { (result ≡ done_by (steps_left job) job image.old)
+        × (image.new ≡ left_by (steps_left job) job image.old) }
 {
+    let left = job.remaining();
     if left == 0 {
         return Ok(0);
     }
@@ -33,15 +34,10 @@ fn run_job(image: &mut [u8], mut job: Job, left: usize) -> Result<usize, Refusal
 }
 
 // All steps of a start: how many were done, or a refusal.
-pub fn run_begun(image: &mut [u8], begun: StartResult) -> Result<usize, Refusal>
+pub fn run_begun(image: &mut [u8], begun: Result<Job, Refusal>) -> Result<usize, Refusal>
     ensures { (result ≡ done_begun begun image.old) × (image.new ≡ left_begun begun image.old) }
 {
-    let answer = begun.answer;
-    let job = begun.job;
-    match answer {
-        Outcome::Refused(why) => Err(why),
-        Outcome::Started => run_job(image, job, job.remaining()),
-    }
+    run_job(image, begun?)
 }
 
 // Starts a command and does all its steps.

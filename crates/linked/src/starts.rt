@@ -2,7 +2,7 @@
 ghost use Rattle.std.specs.Prelude.{◌≡◌};
 ghost use Rattle.rules.specs.Numbers.{setting};
 ghost use Rattle.rules.specs.Commands.{enable, disable, rename, create, delete, repair};
-ghost use Rattle.commands.specs.Begins.{start_result};
+ghost use Rattle.commands.specs.Begins.{start_answer};
 ghost use Rattle.job_bytes.specs.Form.{job_size};
 ghost use Rattle.handing.specs.Begun.{handed, started_into};
 
@@ -27,7 +27,7 @@ pub fn delunkpawi_enable(
     job: &mut [u8],
 ) -> u8
     ensures { handed result job.new
-        ≡ started_into job.old (start_result (setting granule spt0 spt1) image.now (enable slot)) }
+        ≡ started_into job.old (start_answer (setting granule spt0 spt1) image.now (enable slot)) }
 {
     let enable = Command::Enable(SlotNo(slot));
     handing::start_into(image, granule, spt0, spt1, enable, b"", job)
@@ -44,7 +44,7 @@ pub fn delunkpawi_disable(
     job: &mut [u8],
 ) -> u8
     ensures { handed result job.new
-        ≡ started_into job.old (start_result (setting granule spt0 spt1) image.now (disable slot)) }
+        ≡ started_into job.old (start_answer (setting granule spt0 spt1) image.now (disable slot)) }
 {
     let disable = Command::Disable(SlotNo(slot));
     handing::start_into(image, granule, spt0, spt1, disable, b"", job)
@@ -63,7 +63,7 @@ pub fn delunkpawi_rename(
 ) -> u8
     ensures { handed result job.new
         ≡ started_into job.old
-        (start_result (setting granule spt0 spt1) image.now (rename slot name.now)) }
+        (start_answer (setting granule spt0 spt1) image.now (rename slot name.now)) }
 {
     let rename = Command::Rename(SlotNo(slot));
     handing::start_into(image, granule, spt0, spt1, rename, name, job)
@@ -82,7 +82,7 @@ pub fn delunkpawi_create(
 ) -> u8
     ensures { handed result job.new
         ≡ started_into job.old
-        (start_result (setting granule spt0 spt1) image.now (create name.now length)) }
+        (start_answer (setting granule spt0 spt1) image.now (create name.now length)) }
 {
     let create = Command::Create(length);
     handing::start_into(image, granule, spt0, spt1, create, name, job)
@@ -99,7 +99,7 @@ pub fn delunkpawi_delete(
     job: &mut [u8],
 ) -> u8
     ensures { handed result job.new
-        ≡ started_into job.old (start_result (setting granule spt0 spt1) image.now (delete slot)) }
+        ≡ started_into job.old (start_answer (setting granule spt0 spt1) image.now (delete slot)) }
 {
     let delete = Command::Delete(SlotNo(slot));
     handing::start_into(image, granule, spt0, spt1, delete, b"", job)
@@ -115,7 +115,7 @@ pub fn delunkpawi_repair(
     job: &mut [u8],
 ) -> u8
     ensures { handed result job.new
-        ≡ started_into job.old (start_result (setting granule spt0 spt1) image.now repair) }
+        ≡ started_into job.old (start_answer (setting granule spt0 spt1) image.now repair) }
 {
     handing::start_into(image, granule, spt0, spt1, Command::Repair, b"", job)
 }

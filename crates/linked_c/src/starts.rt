@@ -2,7 +2,7 @@
 ghost use Rattle.std.specs.Prelude.{◌≡◌};
 ghost use Rattle.rules.specs.Numbers.{setting};
 ghost use Rattle.rules.specs.Commands.{enable, disable, rename, create, delete, repair};
-ghost use Rattle.commands.specs.Begins.{start_result};
+ghost use Rattle.commands.specs.Begins.{start_answer};
 ghost use Rattle.job_bytes.specs.Form.{job_size};
 ghost use Rattle.handing.specs.Begun.{handed, started_into};
 
@@ -25,7 +25,7 @@ pub extern "C" fn delunkpawi_enable(
     job: &mut [u8],
 ) -> u8
     ensures { handed result job.new
-        ≡ started_into job.old (start_result (setting granule spt0 spt1) image.now (enable slot)) }
+        ≡ started_into job.old (start_answer (setting granule spt0 spt1) image.now (enable slot)) }
 {
     linked::starts::delunkpawi_enable(image, granule, spt0, spt1, slot, job)
 }
@@ -41,7 +41,7 @@ pub extern "C" fn delunkpawi_disable(
     job: &mut [u8],
 ) -> u8
     ensures { handed result job.new
-        ≡ started_into job.old (start_result (setting granule spt0 spt1) image.now (disable slot)) }
+        ≡ started_into job.old (start_answer (setting granule spt0 spt1) image.now (disable slot)) }
 {
     linked::starts::delunkpawi_disable(image, granule, spt0, spt1, slot, job)
 }
@@ -59,7 +59,7 @@ pub extern "C" fn delunkpawi_rename(
 ) -> u8
     ensures { handed result job.new
         ≡ started_into job.old
-        (start_result (setting granule spt0 spt1) image.now (rename slot name.now)) }
+        (start_answer (setting granule spt0 spt1) image.now (rename slot name.now)) }
 {
     linked::starts::delunkpawi_rename(image, granule, spt0, spt1, slot, name, job)
 }
@@ -77,7 +77,7 @@ pub extern "C" fn delunkpawi_create(
 ) -> u8
     ensures { handed result job.new
         ≡ started_into job.old
-        (start_result (setting granule spt0 spt1) image.now (create name.now length)) }
+        (start_answer (setting granule spt0 spt1) image.now (create name.now length)) }
 {
     linked::starts::delunkpawi_create(image, granule, spt0, spt1, name, length, job)
 }
@@ -93,7 +93,7 @@ pub extern "C" fn delunkpawi_delete(
     job: &mut [u8],
 ) -> u8
     ensures { handed result job.new
-        ≡ started_into job.old (start_result (setting granule spt0 spt1) image.now (delete slot)) }
+        ≡ started_into job.old (start_answer (setting granule spt0 spt1) image.now (delete slot)) }
 {
     linked::starts::delunkpawi_delete(image, granule, spt0, spt1, slot, job)
 }
@@ -108,7 +108,7 @@ pub extern "C" fn delunkpawi_repair(
     job: &mut [u8],
 ) -> u8
     ensures { handed result job.new
-        ≡ started_into job.old (start_result (setting granule spt0 spt1) image.now repair) }
+        ≡ started_into job.old (start_answer (setting granule spt0 spt1) image.now repair) }
 {
     linked::starts::delunkpawi_repair(image, granule, spt0, spt1, job)
 }
