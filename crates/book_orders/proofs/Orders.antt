@@ -5,7 +5,6 @@ use mathlib.Core.List.{List, [], ◌∷◌, ◌++◌, map}
 use Prim.Native.Nat.{ℕ, ◌+◌, ◌≤◌, ◌<◌}
 use native.Mathlib.Omega.{arith}
 use native.Mathlib.Numerals.{add-one}
-use lib.Pointwise.{pointwise}
 use lib.Dec.{eqb, leb}
 use lib.ListN.{length, take, get_or, length-replicate, length-map}
 use lib.Seq.{take_all, take-suc}
@@ -90,10 +89,3 @@ module _ {out after : List ℕ} {end : ℕ} (empty : length out ≡ room) (slots
       rw (le-leb (length slots) most_entries few) (put_whole (omega (arith, without-length k slots)) (then p q))
 
 -- ---- two rows compared
-
-pub same_pointwise : (xs ys : List ℕ) → pointwise eqb xs ys ≡ same xs ys
-unfolding same
-same_pointwise [] [] = refl
-same_pointwise [] (y ∷ ys) = refl
-same_pointwise (x ∷ xs) [] = refl
-same_pointwise (x ∷ xs) (y ∷ ys) = rw (same_pointwise xs ys)

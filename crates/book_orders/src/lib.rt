@@ -128,7 +128,7 @@ pub fn with_first(order: Order, slot: SlotNo) -> Order
     Order { row, count }
 }
 
-#[tactic(auto, using(crate::proofs::Orders::same_pointwise))]
+#[tactic(auto, using(walks::proofs::Pointwise::same_pointwise))]
 pub fn same_order(a: Order, b: Order) -> bool
     ensures { result ≡ same (slots_of a) (slots_of b) }
 {

@@ -9,7 +9,6 @@ use lib.Dec.{eqb}
 use lib.ListN.{length, take, drop, replicate, length-drop}
 use lib.Seq.{take_all}
 use Rattle.std.proofs.Common.{le_refl}
-use lib.Pointwise.{pointwise}
 use Rattle.std.proofs.Common.{nat_eq}
 use borrow.Author.Tests.{eq-eqb}
 use Rattle.std.specs.List.{list_all}
@@ -99,10 +98,3 @@ pub same_by_fields : (es : List Entry)
     → first_clash names_differ [] es ≡ first_clash fields_differ [] es
 unfolding all
 same_by_fields es = clash_agree padded names_differ fields_differ differ_by_fields [] es refl
-
-pub same_pointwise : (xs ys : List ℕ) → pointwise nat_eq xs ys ≡ same xs ys
-unfolding same
-same_pointwise [] [] = refl
-same_pointwise [] (y ∷ ys) = refl
-same_pointwise (x ∷ xs) [] = refl
-same_pointwise (x ∷ xs) (y ∷ ys) = rw (same_pointwise xs ys)

@@ -38,7 +38,7 @@ fn is_zero(bytes: &[u8]) -> bool
 }
 
 // The name fields differ.
-#[tactic(auto, using(crate::proofs::Padding::same_pointwise), unfolding(crate::specs::Inner::Padding::fields_differ))]
+#[tactic(auto, using(walks::proofs::Pointwise::same_pointwise), unfolding(crate::specs::Inner::Padding::fields_differ))]
 pub fn fields_differ(d: &Entry<'_>, e: &Entry<'_>) -> bool
     ensures { result ≡ fields_differ d.now e.now }
 {

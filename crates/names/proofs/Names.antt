@@ -3,7 +3,6 @@ use Rattle.std.proofs.Common.{◌≡◌, ℕ, suc, ◌<◌, ◌≤◌, List, [],
 use Rattle.std.specs.List.{position, position_or_len, prefix_len}
 use Rattle.std.specs.Option.{unwrap_or}
 use Rattle.std.proofs.lemmas.List.Sums.{prefix_len-le-length}
-use lib.Pointwise.{pointwise}
 use borrow.Author.Tests.{eqb-true, eq-eqb, leb-false}
 use Rattle.rules.specs.Lists.{same}
 use Rattle.rules.specs.Bytes.{up_to_zero}
@@ -38,13 +37,6 @@ pub name_front : (bs : List ℕ) → take (length (up_to_zero bs)) bs ≡ up_to_
 unfolding up_to_zero
 name_front [] = refl
 name_front (b ∷ bs) = by_cases (eqb b 0) (λ t. rw t) (λ t. rw t (ap (λ l. b ∷ l) (name_front bs)))
-
-pub same_pointwise : (xs ys : List ℕ) → pointwise eqb xs ys ≡ same xs ys
-unfolding same
-same_pointwise [] [] = refl
-same_pointwise [] (y ∷ ys) = refl
-same_pointwise (x ∷ xs) [] = refl
-same_pointwise (x ∷ xs) (y ∷ ys) = rw (same_pointwise xs ys)
 
 false_true : false ≡ true → ⊥
 false_true e = cc

@@ -50,7 +50,7 @@ fn up_to_zero(s: &[u8]) -> &[u8]
 }
 
 // The two names are equal up to their zero bytes.
-#[tactic(auto, using(crate::proofs::Names::same_pointwise))]
+#[tactic(auto, using(walks::proofs::Pointwise::same_pointwise))]
 pub fn same_name(a: &[u8], b: &[u8]) -> bool
     ensures { result ≡ same (up_to_zero a.now) (up_to_zero b.now) }
 {

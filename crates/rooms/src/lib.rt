@@ -88,6 +88,7 @@ pub fn lowest_start(entries: &Entries<'_>, p: &PointerBlock<'_>, len: u64, size:
     requires { Placed len entries.now × ((size_right size ≡ true) × (size < 0x100000000)) }
     ensures { result ≡ lowest_start 0 len entries.now (place_values p.now) size }
 {
+    // A `while`: its step is the next candidate, not the next number.
     let mut a = 0;
     while a + size <= len {
         let b = next_candidate(entries, p, a, size);

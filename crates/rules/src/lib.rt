@@ -24,7 +24,8 @@ pub struct SlotNo(pub u32);
 #[derive(Clone, Copy, Debug, PartialEq, Eq)]
 pub struct PlaceNo(pub usize);
 
-// What a caller says of a flash beside its bytes: the erase granule, and where the two copies of the table are.
+// What a caller says of a flash beside its bytes: the erase granule, and where the two copies of the table are. The bytes
+// are lent by themselves, since a start only reads them and a run stores into them.
 #[derive(Clone, Copy, Debug, PartialEq, Eq)]
 pub struct Setting {
     pub granule: usize,

@@ -7,7 +7,8 @@ ghost use Rattle.tokens.specs.Numbers.{digit, number, value, no_numbers, numbers
 use super::words::last_word_start;
 use answer_parts::hex;
 
-// The words after the verb read as numbers: whether each is one, how many there are, and the first four.
+// The words after the verb read as numbers: whether each is one, how many there are, and the first four. The numbers are told
+// also where a word is none, so that they are no Option.
 #[derive(Clone, Copy)]
 pub struct Row {
     pub numeric: bool,

@@ -6,12 +6,10 @@ ghost use Rattle.tokens.specs.Words.{LastWordBegins};
 pub fn last_word_start(line: &[u8]) -> usize
     ensures { LastWordBegins line.now result }
 {
-    let mut i = line.len();
-    while 0 < i {
-        if line[i - 1] == b' ' {
-            return i;
+    for i in (0..line.len()).rev() {
+        if line[i] == b' ' {
+            return i + 1;
         }
-        i -= 1;
     }
-    i
+    0
 }

@@ -22,10 +22,3 @@ four_turns left f n turn i h none =
   where
     to : (j k : ℕ) → k ≡ j + 1 → j < n → f j ≡ false → left j ≡ left k
     to j k e within fails = rw e (turn j within fails)
-
--- four in a row from 0 on, told as the four from i on
-pub four_from : (f g : ℕ → Bool) (i : ℕ) → ((k : ℕ) → f k ≡ g (i + k)) → one_of_four f 0 ≡ one_of_four g i
-unfolding one_of_four
-four_from f g i same =
-    let here : i + 0 ≡ i = omega arith in
-    rw (same 0, same 1, same 2, same 3, here)

@@ -46,10 +46,6 @@ passed {r} e h = sym e ∙ not-false r h
 
 -- a rule for each of a few
 module _ {A : Type 0} (f : A → Bool) (x y z w : A) where
-  pub all_four : all f (x ∷ y ∷ z ∷ w ∷ []) ≡ f x && f y && f z && f w
-  unfolding all
-  all_four = simp (and_assoc, and_with_true)
-
   pub all_six : (u v : A) → all f (x ∷ y ∷ z ∷ w ∷ u ∷ v ∷ []) ≡ f x && f y && f z && f w && f u && f v
   unfolding all
   all_six u v = simp (and_assoc, and_with_true)

@@ -2,8 +2,8 @@ pub mod Joined
 pub mod Fields
 pub mod Loops
 pub mod Rows
-pub mod Entries
 pub mod Find
 pub mod Last
 pub mod Four
 pub mod Slots
+pub mod Pointwise

@@ -1,4 +1,4 @@
--- One turn and the end of a loop that follows `all`, `pairwise`, `find`, `member` or `keep` down a list. Here `xs` is
+-- One turn and the end of a loop that follows `all`, `find`, `member` or `keep` down a list. Here `xs` is
 -- what is left to walk. Assumes nothing.
 use mathlib.Core.Path.{◌≡◌}
 use mathlib.Core.Bool.{Bool, true, false, cond}
@@ -7,7 +7,7 @@ use Prim.Native.Nat.{ℕ, suc, ◌+◌}
 use native.Mathlib.Omega.{arith}
 use lib.ListN.{length}
 use borrow.Author.Tests.{eq-eqb, ne_eqb}
-use Rattle.rules.specs.Lists.{all, pairwise, keep, member}
+use Rattle.rules.specs.Lists.{all, keep, member}
 use Rattle.rules.proofs.Lists.Tests.{by_cases}
 use Rattle.walks.specs.Find.{find}
 
@@ -47,20 +47,6 @@ module _ {A : Type 0} {xs : List A} where
     unfolding keep
     keep_turn e = by_cases (f x) (λ t. rw (e, t) (omega arith)) (λ t. rw (e, t) (omega arith))
 
-  module _ (g : A → A → Bool) where
-    pub pairwise_over : xs ≡ [] → pairwise g xs ≡ true
-    unfolding pairwise
-    pairwise_over e = rw e
-
-  module _ (g : A → A → Bool) {x : A} {rest : List A} where
-    pub pairwise_fails : xs ≡ x ∷ rest → all (g x) rest ≡ false → pairwise g xs ≡ false
-    unfolding pairwise
-    pairwise_fails e h = rw (e, h)
-
-    pub pairwise_goes : xs ≡ x ∷ rest → all (g x) rest ≡ true → pairwise g xs ≡ pairwise g rest
-    unfolding pairwise
-    pairwise_goes e h = rw (e, h)
-
 module _ {xs rest : List ℕ} {x : ℕ} (a : ℕ) where
   pub member_here : xs ≡ x ∷ rest → a ≡ x → member a xs ≡ true
   unfolding member
@@ -69,7 +55,3 @@ module _ {xs rest : List ℕ} {x : ℕ} (a : ℕ) where
   pub member_goes : xs ≡ x ∷ rest → (a ≡ x → ⊥) → member a xs ≡ member a rest
   unfolding member
   member_goes e h = rw (e, ne_eqb a x h)
-
-pub member_over : {xs : List ℕ} (a : ℕ) → xs ≡ [] → member a xs ≡ false
-unfolding member
-member_over a e = rw e

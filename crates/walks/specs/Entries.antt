@@ -12,13 +12,6 @@ pub record HasEntries (t : List ℕ) (n : ℕ) : Type 0 where
   pub whole : length t ≡ block_size
   pub few : n ≤ most_entries
 
--- a whole table, with an entry of this number; with entries of both numbers
-abbrev pub HasEntry : List ℕ → ℕ → Type 0
-HasEntry t e = (length t ≡ block_size) × (e < most_entries)
-
-abbrev pub HasBoth : List ℕ → ℕ → ℕ → Type 0
-HasBoth t d e = (length t ≡ block_size) × ((d < most_entries) × (e < most_entries))
-
 -- the entry of a number, counted or not
 unfoldable pub entry_at : List ℕ → ℕ → Entry
 entry_at t i = entry (drop (0x20 + 32 * i) t)

@@ -2,7 +2,7 @@
 use Rattle.rules.specs.Table.{is_fixed_name, six_names}
 use Rattle.rules.specs.Table.{boot_info, factory_image, spt0_name, spt1_name, cpb0_name, cpb1_name}
 use Rattle.walks.proofs.Joined.{any_six}
-use Rattle.names.proofs.Names.{same_pointwise}
+use Rattle.walks.proofs.Pointwise.{same_pointwise}
 use Rattle.names.proofs.has_fixed_name.Goals as goal
 
 pub returns : goal.returns

@@ -7,6 +7,3 @@ use Rattle.tokens.proofs.words.last_word_start.Given as goal
 
 abbrev pub invariant-loop-i : goal.invariant-loop-i
 invariant-loop-i l = (l.i ≤ length l.line) × (later_words (drop l.i l.line) ≡ [])
-
-abbrev pub decreases-loop-i : goal.decreases-loop-i
-decreases-loop-i l = l.i
