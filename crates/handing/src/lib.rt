@@ -41,7 +41,7 @@ fn hand_over(image: &[u8], draft: Draft, room: &[u8], job: &mut [u8])
 
 // A command started into a lent buffer: refused 90 where that has another length than a job's. A number, since C gets it
 // as it is.
-#[tactic(auto, using(crate::proofs::Beginning::other_length, crate::proofs::Beginning::into_given))]
+#[tactic(auto, using(crate::proofs::Beginning::other_length))]
 pub fn start_into(
     image: &[u8],
     granule: usize,

@@ -34,6 +34,7 @@ fn run_job(image: &mut [u8], mut job: Job) -> Result<usize, Refusal>
 }
 
 // All steps of a start: how many were done, or a refusal.
+#[tactic(auto, unfolding(crate::specs::Finished::done_begun, crate::specs::Finished::left_begun))]
 pub fn run_begun(image: &mut [u8], begun: Result<Job, Refusal>) -> Result<usize, Refusal>
     ensures { (result ≡ done_begun begun image.old) × (image.new ≡ left_begun begun image.old) }
 {
