@@ -23,9 +23,7 @@ use Rattle.rules.proofs.Table.Standing.{length-entries}
 use Rattle.rules.proofs.Order.OnceEach.{once_order, once_length}
 use Rattle.rules.proofs.Steps.Frame.{length-block}
 use Rattle.walks.specs.Entries.{most_entries}
-use Rattle.order_lists.specs.Answers.{listed, count_of}
-use Rattle.order_lists.specs.declared.Listed.{Listed}
-use Rattle.order_lists.specs.declared.Listed.TheVariants.{Count, Refused as NotListed}
+use Rattle.order_lists.specs.Answers.{count_of}
 use Rattle.views.proofs.Opening.{located}
 use Rattle.drafts.specs.Inner.Asked.{copies_equal}
 use Rattle.drafts.proofs.EqualCopies.{pairs_agree_if_equal}
@@ -62,56 +60,46 @@ module _ (s : Setting) (img row : List ℕ) (whole : length row ≡ room) where
   order_there v e =
       rw (e, le-leb (length (boot_order img v)) (length row) (omega (arith, short_order s img v e)))
 
-  module _ (answer : Listed) (told : listed answer ≡ count_of (order_list s img (length row))) where
-    pub not_read : (why : Refusal) → answer ≡ NotListed why → refused why ≡ reading s img
-    unfolding listed reading
-    not_read why q = split (view s img) refl
+  pub not_read : (why : Refusal) → refused why ≡ count_of (order_list s img (length row)) → refused why ≡ reading s img
+  unfolding reading
+  not_read why said = split (view s img) refl
+    where
+      split : (a : Answer View) → view s img ≡ a → refused why ≡ reading s img
+      split (refused first) e = unfold reading order_list in rw e (as_refused why first (rw e at said))
+      split (given v) e = absurd (refused_given why (length (boot_order img v)) (rw (order_there v e) at said))
+
+  module _ (n : ℕ) (said : given n ≡ count_of (order_list s img (length row))) where
+    seen : (v : View) × (view s img ≡ given v)
+    seen = split (view s img) refl
       where
-        said : refused why ≡ count_of (order_list s img (length row))
-        said = ap listed (sym q) ∙ told
+        split : (a : Answer View) → view s img ≡ a → (v : View) × (a ≡ given v)
+        split (refused why) e =
+            absurd (refused_given why n (sym (unfold order_list in rw e at said)))
+        split (given v) e = (v, refl)
 
-        split : (a : Answer View) → view s img ≡ a → refused why ≡ reading s img
-        split (refused first) e = unfold reading order_list count_of ◌>>=◌ in
-            rw e (as_refused why first (rw e at said))
-        split (given v) e =
-            absurd (refused_given why (length (boot_order img v)) (unfold count_of ◌>>=◌ in rw (order_there v e) at said))
+    pub whole_table : length (table_part s img) ≡ block_size
+    unfolding table_part table_of
+    whole_table =
+        let (v, e) = seen in
+        rw e (length-block img v.table (located s img v e).table_inside)
 
-    module _ (n : ℕ) (q : answer ≡ Count n) where
-      said : given n ≡ count_of (order_list s img (length row))
-      unfolding listed
-      said = ap listed (sym q) ∙ told
+    module _ (t after : List ℕ) (is_table : t ≡ table_part s img)
+        (is_row : after ≡ row_after (order_list s img (length row)) row) where
+      read_by_view : (v : View) → view s img ≡ given v
+          → given (record { table = t; boot = take n after }) ≡ reading s img
+      unfolding reading read_by table_part table_of row_after
+      read_by_view v e =
+          let o : List ℕ = boot_order img v in
+          let count : n ≡ length o = given_inj n (length o) (rw (order_there v e) at said) in
+          let front : after ≡ o ++ drop (length o) row = rw (order_there v e) at is_row in
+          let boot : take n after ≡ o =
+          ap (λ (m : ℕ). take m after) count ∙ ap (λ (l : List ℕ). take (length o) l) front
+          ∙ take-append_seam o (drop (length o) row) in
+          let table : t ≡ block img v.table = rw e at is_table in
+          rw (e, boot, table)
 
-      seen : (v : View) × (view s img ≡ given v)
-      seen = split (view s img) refl
-        where
-          split : (a : Answer View) → view s img ≡ a → (v : View) × (a ≡ given v)
-          split (refused why) e =
-              absurd (refused_given why n (sym (unfold order_list count_of ◌>>=◌ in rw e at said)))
-          split (given v) e = (v, refl)
-
-      pub whole_table : length (table_part s img) ≡ block_size
-      unfolding table_part table_of
-      whole_table =
-          let (v, e) = seen in
-          rw e (length-block img v.table (located s img v e).table_inside)
-
-      module _ (t after : List ℕ) (is_table : t ≡ table_part s img)
-          (is_row : after ≡ row_after (order_list s img (length row)) row) where
-        read_by_view : (v : View) → view s img ≡ given v
-            → given (record { table = t; boot = take n after }) ≡ reading s img
-        unfolding reading read_by table_part table_of row_after count_of
-        read_by_view v e =
-            let o : List ℕ = boot_order img v in
-            let count : n ≡ length o = given_inj n (length o) (rw (order_there v e) at said) in
-            let front : after ≡ o ++ drop (length o) row = rw (order_there v e) at is_row in
-            let boot : take n after ≡ o =
-            ap (λ (m : ℕ). take m after) count ∙ ap (λ (l : List ℕ). take (length o) l) front
-            ∙ take-append_seam o (drop (length o) row) in
-            let table : t ≡ block img v.table = rw e at is_table in
-            rw (e, boot, table)
-
-        pub was_read : given (record { table = t; boot = take n after }) ≡ reading s img
-        was_read = let (v, e) = seen in read_by_view v e
+      pub was_read : given (record { table = t; boot = take n after }) ≡ reading s img
+      was_read = let (v, e) = seen in read_by_view v e
 
 -- ---- the pairs
 

@@ -11,22 +11,16 @@ use Rattle.walks.specs.Entries.{most_entries}
 use Rattle.book_orders.specs.Orders.{slots_of}
 use Rattle.book_entries.specs.Tables.{has_slot, has_row}
 use Rattle.book.specs.declared.Book.{Book}
-use Rattle.book.specs.declared.Answer.{Answer as Answered}
-use Rattle.book.specs.declared.Answer.TheVariants.{Given, Refused}
-use Rattle.book.specs.declared.Read.{Read}
 
 -- ---- readings
 
 unfoldable pub reading_of : Book → Reading
 reading_of b = record { table = b.table; boot = slots_of b.order }
 
-unfoldable pub answer_of : Answered → Reading → Answer Reading
-answer_of Given r = given r
-answer_of (Refused why) r = refused why
-
 -- the reading that was given, or refused 1, 2, 3, 50, 51 or 5
-unfoldable pub read_as : Read → Answer Reading
-read_as r = answer_of r.answer (reading_of r.book)
+unfoldable pub read_as : Answer Book → Answer Reading
+read_as (refused why) = refused why
+read_as (given b) = given (reading_of b)
 
 unfoldable pub same_reading : Reading → Reading → Bool
 same_reading a b = same a.table b.table && same a.boot b.boot

@@ -11,9 +11,7 @@ ghost use Rattle.book.specs.Kept.{reading_of, read_as, same_reading, same_answer
 
 use book_orders::{Change, Order};
 use commands::Command;
-use order_lists::Listed;
 use rules::{Refusal, Setting, SlotNo};
-use views::Viewed;
 
 // A reading: the table copy read, and the boot order.
 #[derive(Clone, Copy)]
@@ -22,72 +20,36 @@ pub struct Book {
     pub order: Order,
 }
 
-#[derive(Clone, Copy)]
-pub enum Answer {
-    Given,
-    Refused(Refusal),
-}
-
-// What a flash reads as: beside a refusal the book means nothing.
-#[derive(Clone, Copy)]
-pub struct Read {
-    pub book: Book,
-    pub answer: Answer,
-}
-
 // The reading of a flash, or the refusal.
-pub fn read_book(image: &[u8], setting: Setting) -> Read
+#[tactic(auto, unfolding(crate::specs::Kept::read_as, crate::specs::Kept::reading_of, book_orders::specs::Orders::slots_of))]
+pub fn read_book(image: &[u8], setting: Setting) -> Result<Book, Refusal>
     ensures { read_as result ≡ reading setting image.now }
 {
     let mut row = book_orders::no_slots();
-    let listed = reading::order_list(image, setting, &mut row);
-    match listed {
-        Listed::Refused(why) => Read {
-            book: book_of(book_entries::no_block(), row, 0),
-            answer: Answer::Refused(why),
-        },
-        Listed::Count(n) => {
-            let table = book_entries::block_of(reading::table_read(image, setting));
-            Read {
-                book: book_of(table, row, n),
-                answer: Answer::Given,
-            }
-        }
-    }
-}
-
-fn book_of(table: [u8; rules::BLOCK_SIZE], row: [u32; book_orders::ROOM], count: usize) -> Book
-    ensures { result ≡ record { table = table; order = record { row = row; count = count } } }
-{
-    Book {
-        table: table,
-        order: Order {
-            row: row,
-            count: count,
-        },
-    }
+    let count = reading::order_list(image, setting, &mut row)?;
+    let table = book_entries::block_of(reading::table_read(image, setting));
+    Ok(Book {
+        table,
+        order: Order { row, count },
+    })
 }
 
 // The flash reads as the book says.
-pub fn reads_as(read: Read, book: Book) -> bool
+#[tactic(auto, unfolding(crate::specs::Kept::read_as, crate::specs::Kept::same_answer))]
+pub fn reads_as(read: Result<Book, Refusal>, book: Book) -> bool
     ensures { result ≡ same_answer (read_as read) (reading_of book) }
 {
-    let answer = read.answer;
-    let kept = read.book;
-    match answer {
-        Answer::Refused(_) => false,
-        Answer::Given => same_book(kept, book),
+    match read {
+        Err(_) => false,
+        Ok(kept) => same_book(kept, book),
     }
 }
 
+#[tactic(auto, unfolding(crate::specs::Kept::reading_of, crate::specs::Kept::same_reading))]
 pub fn same_book(a: Book, b: Book) -> bool
     ensures { result ≡ same_reading (reading_of a) (reading_of b) }
 {
-    let one = a.table;
-    let other = b.table;
-    let first = a.order;
-    let second = b.order;
-    book_entries::same_bytes(&one, &other) & book_orders::same_order(first, second)
+    book_entries::same_bytes(&a.table, &b.table) && book_orders::same_order(a.order, b.order)
 }
 
 // The book after a finished command on a flash; every rename and every create is to the same name. A create looks at the
@@ -133,21 +95,18 @@ fn deleted(book: Book, slot: SlotNo) -> Book
 fn with_order(table: [u8; rules::BLOCK_SIZE], order: Order) -> Book
     ensures { result ≡ record { table = table; order = order } }
 {
-    Book {
-        table: table,
-        order: order,
-    }
+    Book { table, order }
 }
 
 // The flash can be read and both its pairs agree. With a copy read, both copies stand if they are equal.
+#[tactic(auto, unfolding(drafts::specs::Inner::Asked::copies_equal), using(crate::proofs::ReadBack::none_agree, crate::proofs::ReadBack::agree_by_copies))]
 pub fn pairs_agree(image: &[u8], setting: Setting) -> bool
     ensures { result ≡ pairs_agree setting image.now }
 {
-    let seen = views::view(image, setting);
-    match seen {
-        Viewed::Refused(_) => false,
-        Viewed::At(v) => {
-            copies::same_blocks(image, v.spt0, v.spt1) & copies::same_blocks(image, v.cpb0, v.cpb1)
+    match views::view(image, setting) {
+        Err(_) => false,
+        Ok(v) => {
+            copies::same_blocks(image, v.spt0, v.spt1) && copies::same_blocks(image, v.cpb0, v.cpb1)
         }
     }
 }

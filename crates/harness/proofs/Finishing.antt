@@ -21,7 +21,8 @@ use Rattle.rules.proofs.Claim.Bridge.{never_refused_12}
 use Rattle.jobs.specs.Jobs.{Ran, under_way, admitted, steps_done, ran, progress_after, steps_left}
 use Rattle.jobs.specs.declared.Job.{Job}
 use Rattle.blocks.specs.Made.{Lists}
-use Rattle.commands.specs.Begins.{command_of, Begins}
+use Rattle.commands.specs.Begins.{command_of, start_answer, Begins}
+use Rattle.commands.proofs.StartLists.{start_lists}
 use Rattle.commands.specs.declared.Command.{Command as Asked}
 use Rattle.commands.proofs.NameLent.{bytes_lent}
 use Rattle.book_entries.specs.Tables.{new_name}
@@ -78,10 +79,10 @@ all_steps g img j (s ∷ l) lists may =
 -- ---- a command
 
 module _ (s : Setting) (img : List ℕ) (c : Command) (b : Answer Job) (bytes : Bytes img) (names : NameBytes c)
-    (begun : Begins b (length img) s.granule (start s img c)) where
+    (begun : b ≡ start_answer s img c) where
   pub finishes : (done_begun b img ≡ finished (start s img c))
       × (left_begun b img ≡ left_finished s.granule img (start s img c))
-  finishes = by_answer (start s img c) refl begun
+  finishes = by_answer (start s img c) refl (rw begun (start_lists s img c))
     where
       by_answer : (a : Answer (List Step)) → start s img c ≡ a → Begins b (length img) s.granule a
           → (done_begun b img ≡ finished a) × (left_begun b img ≡ left_finished s.granule img a)
