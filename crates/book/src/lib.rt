@@ -106,7 +106,7 @@ pub fn pairs_agree(image: &[u8], setting: Setting) -> bool
     match views::view(image, setting) {
         Err(_) => false,
         Ok(v) => {
-            copies::same_blocks(image, v.spt0, v.spt1) && copies::same_blocks(image, v.cpb0, v.cpb1)
+            copies::same_blocks(image, v.spt0, v.spt1) & copies::same_blocks(image, v.cpb0, v.cpb1)
         }
     }
 }
