@@ -35,7 +35,7 @@ class Token(NamedTuple):
 
 
 class Type(NamedTuple):
-    """A type as written: kind is `name`, `lent`, `slice`, `array` or `tuple`."""
+    """A type as written: kind is `name`, `lent`, `slice`, `array` or `tuple`. A name's parts are its type arguments."""
 
     kind: str
     parts: tuple["Type", ...] = ()
@@ -45,7 +45,8 @@ class Type(NamedTuple):
     def __str__(self) -> str:
         inner = ", ".join(str(part) for part in self.parts)
         length = " ".join(token.text for token in self.length)
-        shapes = {"name": "::".join(self.path), "lent": "&" + inner, "slice": f"[{inner}]"}
+        name = "::".join(self.path) + (f"<{inner}>" if self.parts else "")
+        shapes = {"name": name, "lent": "&" + inner, "slice": f"[{inner}]"}
         return shapes.get(self.kind) or (f"[{inner}; {length}]" if self.kind == "array" else f"({inner})")
 
 
@@ -57,6 +58,7 @@ class Declared:
     module: "Module"
     variants: dict[str, list[Type]]
     is_enum: bool = False
+    fields: dict[str, Type] = field(default_factory=dict)
 
 
 @dataclass(eq=False)
@@ -76,9 +78,15 @@ class Function:
     body: Optional[list[Token]]
     line: int
     owner: str = ""
+    tests: frozenset[str] = frozenset()
 
     def __str__(self) -> str:
         return "::".join(part for part in (str(self.module), self.owner, self.name) if part)
+
+    def is_test(self, kind: Type) -> bool:
+        """The type is one of the function's own that stands for a closure, or a reference to it."""
+        kind = kind.parts[0] if kind.kind == "lent" else kind
+        return kind.kind == "name" and len(kind.path) == 1 and kind.path[0] in self.tests
 
 
 @dataclass(eq=False)
@@ -163,13 +171,37 @@ class Cursor:
                 self.take()
         return self.tokens[first : self.at]
 
-    def lifetimes(self) -> None:
-        """Passes `<'a, 'b>`. Rattle has no other generics."""
-        while self.taken("<"):
+    def generics(self) -> frozenset[str]:
+        """Passes `<'a, const N: usize, F: Fn(..) -> T>`: the types that stand for a closure. No other type is known."""
+        tests = set()
+        if self.taken("<"):
             while not self.taken(">"):
-                if self.kind() != "lifetime" and self.text() not in (",", ":", "+"):
+                if self.taken("const"):
+                    self.take()
+                    self.take(":")
+                    self.type()
+                elif self.kind() == "name" and self.text(1) == ":" and self.text(2) == "Fn":
+                    tests.add(self.take())
+                    self.at += 2
+                    self.group()
+                    if self.taken("->"):
+                        self.type()
+                elif self.kind() == "lifetime" or self.text() in (",", ":", "+"):
+                    self.at += 1
+                else:
                     raise self.fail(f"the generic parameter '{self.text()}' is not known")
-                self.at += 1
+        return frozenset(tests)
+
+    def arguments(self) -> tuple[Type, ...]:
+        """Passes `<'a, T, 4>`: the types in it."""
+        found = []
+        if self.taken("<"):
+            while not self.taken(">"):
+                if self.kind() in ("lifetime", "number") or self.text() == ",":
+                    self.at += 1
+                else:
+                    found.append(self.type())
+        return tuple(found)
 
     def attributes(self) -> None:
         """Passes `#[unsafe(no_mangle)]` and the like. One that changes what is compiled is refused."""
@@ -199,13 +231,11 @@ class Cursor:
             inside.take(";")
             return Type("array", (element,), length=tuple(inside.tokens[inside.at :]))
         if text == "(":
-            return Type("tuple", tuple(types_in(Cursor(self.group(), self.file))))
+            return Type("tuple", tuple(types_in(Cursor(self.group(), self.file)).values()))
         if self.kind() != "name" or text in ("dyn", "fn", "impl"):
             raise self.fail(f"the type at '{text}' is not known")
         path = self.path()
-        if self.text() == "<" and self.text(1).startswith("'"):
-            self.lifetimes()
-        return Type("name", path=path)
+        return Type("name", self.arguments(), path)
 
     def lent_type(self) -> Type:
         self.take("&")
@@ -215,15 +245,15 @@ class Cursor:
         return Type("lent", (self.type(),))
 
 
-def types_in(cursor: Cursor, named: bool = False) -> list[Type]:
-    """Types with commas between them, each after `pub` and, where named, its field's name."""
-    found = []
+def types_in(cursor: Cursor, named: bool = False) -> dict[str, Type]:
+    """Types with commas between them, each after `pub` and, where named, its field's name; else by their numbers."""
+    found: dict[str, Type] = {}
     while cursor.text():
         visibility(cursor)
+        name = cursor.take() if named else str(len(found))
         if named:
-            cursor.take()
             cursor.take(":")
-        found.append(cursor.type())
+        found[name] = cursor.type()
         cursor.taken(",")
     return found
 
@@ -303,33 +333,35 @@ class Items:
 
     def named_type(self) -> None:
         name = self.cursor.take()
-        self.cursor.lifetimes()
+        self.cursor.generics()
         self.cursor.take("=")
         self.declare(name, {"": [self.cursor.type()]})
         self.cursor.take(";")
 
     def struct(self) -> None:
         name = self.cursor.take()
-        self.cursor.lifetimes()
-        self.declare(name, {"": self.fields()})
+        self.cursor.generics()
+        fields = self.fields()
+        self.declare(name, {"": list(fields.values())})
+        self.module.items[name].fields = fields
         self.cursor.taken(";")
 
-    def fields(self) -> list[Type]:
+    def fields(self) -> dict[str, Type]:
         """What stands after the name of a struct or a variant."""
         opening = self.cursor.text()
         if opening not in ("{", "("):
-            return []
+            return {}
         return types_in(Cursor(self.cursor.group(), self.module.file), named=opening == "{")
 
     def enum(self) -> None:
         name = self.cursor.take()
-        self.cursor.lifetimes()
+        self.cursor.generics()
         outside, self.cursor = self.cursor, Cursor(self.cursor.group(), self.module.file)
         variants = {}
         while self.cursor.text():
             self.cursor.attributes()
             variant = self.cursor.take()
-            variants[variant] = self.fields()
+            variants[variant] = list(self.fields().values())
             if self.cursor.text():
                 self.cursor.until(",")
                 self.cursor.take(",")
@@ -340,12 +372,16 @@ class Items:
         self.module.items[name] = Declared(name, self.module, variants, is_enum)
 
     def impl(self) -> None:
-        self.cursor.lifetimes()
-        owner = self.cursor.path()[-1]
-        self.cursor.lifetimes()
+        self.cursor.generics()
+        owner = self.cursor.type().path[-1]
+        if self.cursor.taken("for"):
+            owner = self.cursor.type().path[-1]
         outside, self.cursor = self.cursor, Cursor(self.cursor.group(), self.module.file)
         while self.cursor.text():
             visibility(self.cursor)
+            if self.cursor.taken("ghost"):
+                self.ghost()
+                continue
             self.cursor.take("fn")
             self.module.methods.append(self.function(owner))
         self.cursor = outside
@@ -364,14 +400,14 @@ class Items:
     def function(self, owner: str = "") -> Function:
         cursor = self.cursor
         line, name = cursor.line(), cursor.take()
-        cursor.lifetimes()
+        tests = cursor.generics()
         parameters = self.parameters(Cursor(cursor.group(), self.module.file), owner)
         result = cursor.type() if cursor.taken("->") else None
         while cursor.kind() == "name":
             cursor.until("{")
             cursor.group()
         body = None if cursor.taken(";") else cursor.group()
-        return Function(name, self.module, parameters, result, body, line, owner)
+        return Function(name, self.module, parameters, result, body, line, owner, tests)
 
     def parameters(self, cursor: Cursor, owner: str) -> dict[str, Type]:
         found = {}

@@ -14,6 +14,7 @@ SCALARS |= {"u64": 8, "i64": 8, "f64": 8, "usize": 8, "isize": 8}
 POINTER_SIZE = 8
 REFERENCE_SIZE = 16  # a pointer and a length
 TAG_SIZE = 8
+STANDARD_TYPES = {"Option", "Result", "Range"}  # of their arguments alone: the first two with a tag, a range with two of its own
 STANDARD = ("core", "std", "std_alloc", "std_collections", "std_heap", "std_io")  # what every crate uses unlisted
 
 
@@ -60,14 +61,24 @@ class Source:
     def methods(self, name: str, owner: str = "") -> list[Function]:
         """Every method of that name in the repository's libraries, of one type or of any. Nothing else can be meant: no
         library reaches what a program declares, and a method of the kit's is refused where the type is not known."""
-        names = sorted(root.parent.parent.name for root in self.folders[0].glob("*/src/lib.rt"))
-        crates = [self.crate(crate) for crate in names]
-        modules = [module for crate in crates if crate for module in crate.all()]
-        methods = [method for module in modules for method in module.methods]
+        methods = [method for module in self.libraries() for method in module.methods]
         found = [method for method in methods if method.name == name and owner in ("", method.owner)]
         if found and not owner and name in self.kit_names():
             raise Unknown(f"whether the method '{name}' is {found[0]} or the kit's is not known")
         return found
+
+    def libraries(self) -> list[Module]:
+        """Every module of the repository's libraries."""
+        names = sorted(root.parent.parent.name for root in self.folders[0].glob("*/src/lib.rt"))
+        return [module for name in names if (crate := self.crate(name)) for module in crate.all()]
+
+    def declares_method(self, name: str) -> bool:
+        return any(method.name == name for module in self.libraries() for method in module.methods)
+
+    def declared_types(self, name: str) -> list[Declared]:
+        """Every type of that name in the repository's libraries."""
+        found = [module.items.get(name) for module in self.libraries()]
+        return [item for item in found if isinstance(item, Declared)]
 
     def kit_names(self) -> set[str]:
         """The functions that the kit's standard libraries declare. Their traits and generics are more than is read here."""
@@ -170,6 +181,11 @@ class Source:
             raise Unknown(f"the type '{kind}' is not known ({module.file})")
         return found
 
+    def is_standard(self, kind: Type, module: Module, owner: str) -> bool:
+        """The type is one of std's, known by what it is made of."""
+        is_named = kind.kind == "name" and bool(kind.parts) and kind.path[-1] in STANDARD_TYPES
+        return is_named and self.resolve(kind.path, module, owner) is None
+
     def size(self, kind: Type, module: Module, owner: str = "", local: Optional[dict[str, Const]] = None) -> int:
         """The bytes of a type. A struct has its fields in their order, an enum a tag and its largest variant."""
         if kind.kind == "lent":
@@ -182,6 +198,9 @@ class Source:
             return SCALARS[kind.path[0]]
         if kind.kind == "slice":
             raise Unknown(f"the size of '{kind}' is not known ({module.file})")
+        if self.is_standard(kind, module, owner):
+            sizes = [self.size(part, module, owner, local) for part in kind.parts]
+            return 2 * sizes[0] if kind.path[-1] == "Range" else TAG_SIZE + max(sizes)
         return self.declared_size(self.declared(kind, module, owner))
 
     def declared_size(self, declared: Declared) -> int:
@@ -199,6 +218,8 @@ class Source:
         """The number of which an address of the type is a multiple."""
         if kind.kind in ("array", "tuple"):
             return max((self.alignment(part, module, owner) for part in kind.parts), default=1)
+        if self.is_standard(kind, module, owner):
+            return TAG_SIZE
         if kind.kind == "name" and kind.path[0] not in SCALARS:
             return self.declared_alignment(self.declared(kind, module, owner))
         return SCALARS[kind.path[0]] if kind.kind == "name" else POINTER_SIZE
@@ -213,15 +234,20 @@ class Source:
     ) -> Iterator[Held]:
         """The arrays that a value of the type holds.
 
-        A lent slice or array is lent; what its elements hold, and what a lent struct holds, could be copied out of it
-        unseen and counts as held.
+        A lent slice or array is lent, and so are arrays that are its elements: what copies one is seen (an index, a `*`, a
+        method of std). What its elements hold otherwise, and what a lent struct holds, could be copied out of it unseen and
+        counts as held.
         """
         if kind.kind == "lent":
-            inner = kind.parts[0]
-            if inner.kind == "array":
-                yield Held(f"{inner}{where}", self.size(inner, module, owner, local), True)
-            element = inner.parts[0] if inner.kind in ("array", "slice") else inner
+            element = kind.parts[0]
+            while element.kind in ("array", "slice"):
+                if element.kind == "array":
+                    yield Held(f"{element}{where}", self.size(element, module, owner, local), True)
+                element = element.parts[0]
             yield from self.held(element, module, owner, local, where + " behind a reference")
+        elif self.is_standard(kind, module, owner):
+            for part in kind.parts:
+                yield from self.held(part, module, owner, local, where)
         elif kind.kind == "name":
             if kind.path[0] not in SCALARS:
                 yield from self.declared_held(self.declared(kind, module, owner), where)
