@@ -14,6 +14,7 @@ use jobs::Job;
 use pointer_commands::{disabling, enabling};
 use rules::{Refusal, Setting, SlotNo};
 use table_commands::{creating, deleting, renaming};
+use views::opened;
 
 // What is asked of a flash. The new name of a slot is lent beside it; a new slot is created with a length.
 #[derive(Clone, Copy, Debug, PartialEq, Eq)]
@@ -49,14 +50,14 @@ pub fn draft_command(
         ≡ start_answer setting image.now (command_of command name.now) }
     ensures sound { IfOk result (λ d. Sound image.now d) }
 {
-    let v = views::view(image, setting)?;
+    let flash = opened::open(image, setting)?;
     match command {
-        Command::Enable(slot) => enabling::enable_by(image, setting, v, slot, room),
-        Command::Disable(slot) => disabling::disable_by(image, setting, v, slot, room),
-        Command::Rename(slot) => renaming::rename_by(image, setting, v, slot, name, room),
-        Command::Create(size) => creating::create_by(image, setting, v, name, size, room),
-        Command::Delete(slot) => deleting::delete_by(image, setting, v, slot, room),
-        Command::Repair => Ok(repair_command::repair_by(image, setting, v)),
+        Command::Enable(slot) => enabling::enable_by(&flash, slot, room),
+        Command::Disable(slot) => disabling::disable_by(&flash, slot, room),
+        Command::Rename(slot) => renaming::rename_by(&flash, slot, name, room),
+        Command::Create(size) => creating::create_by(&flash, name, size, room),
+        Command::Delete(slot) => deleting::delete_by(&flash, slot, room),
+        Command::Repair => Ok(repair_command::repair_by(&flash)),
     }
 }
 

@@ -1,21 +1,19 @@
 // Refusals 6 and 7, which all commands for a slot share.
 ghost use Rattle.std.specs.Prelude.{◌≡◌};
-ghost use Rattle.views.specs.Inner.Located.{Located};
 ghost use Rattle.drafts.specs.Inner.Asked.{copies_equal, slot_asked};
 
-use rules::{Refusal, SlotNo, View};
-use views::opened;
+use rules::{Refusal, SlotNo};
+use views::opened::Opened;
 
 // Both pairs agree, and the slot is there.
 #[tactic(auto, unfolding(crate::specs::Inner::Asked::slot_asked, rules::specs::Answers::unless, rules::specs::Readers::slot_there))]
-pub fn ask_slot(image: &[u8], v: View, slot: SlotNo) -> Result<(), Refusal>
-    requires { Located image.now v }
-    ensures { result ≡ slot_asked image.now v slot.0 }
+pub fn ask_slot(flash: &Opened<'_>, slot: SlotNo) -> Result<(), Refusal>
+    ensures { result ≡ slot_asked flash.now.image.now flash.now.view slot.0 }
 {
-    if !copies_equal(image, v) {
+    if !copies_equal(flash) {
         return Err(Refusal::CopiesDiffer);
     }
-    if opened::table_of(image, v).slot_total() <= slot.0 as usize {
+    if flash.table().slot_total() <= slot.0 as usize {
         return Err(Refusal::NoSuchSlot);
     }
     Ok(())
@@ -23,9 +21,10 @@ pub fn ask_slot(image: &[u8], v: View, slot: SlotNo) -> Result<(), Refusal>
 
 // Both pairs agree, once a copy of each is read.
 #[tactic(auto, unfolding(crate::specs::Inner::Asked::copies_equal))]
-pub fn copies_equal(image: &[u8], v: View) -> bool
-    requires { Located image.now v }
-    ensures { result ≡ copies_equal image.now v }
+pub fn copies_equal(flash: &Opened<'_>) -> bool
+    ensures { result ≡ copies_equal flash.now.image.now flash.now.view }
 {
-    copies::same_blocks(image, v.spt0, v.spt1) && copies::same_blocks(image, v.cpb0, v.cpb1)
+    let v = flash.view;
+    copies::same_blocks(flash.image, v.spt0, v.spt1)
+        && copies::same_blocks(flash.image, v.cpb0, v.cpb1)
 }

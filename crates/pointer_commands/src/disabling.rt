@@ -1,47 +1,42 @@
 // Disable, once the view of the flash is known.
 ghost use Rattle.std.specs.Prelude.{◌≡◌, IfOk, length, get_or};
 ghost use Rattle.rules.specs.Bytes.{block_size};
-ghost use Rattle.rules.specs.Answers.{given};
 ghost use Rattle.rules.specs.Table.{starts};
-ghost use Rattle.rules.specs.Copies.{view};
 ghost use Rattle.rules.specs.Commands.{disable};
 ghost use Rattle.blocks.specs.Made.{place_list};
 ghost use Rattle.place_lists.specs.Inner.Walked.{places_giving};
-ghost use Rattle.views.specs.Inner.Located.{Located};
 ghost use Rattle.drafts.specs.JobFor.{disable_job, job_by};
 ghost use Rattle.drafts.specs.Inner.Drafted.{job_of, Sound, Means};
 
 use blocks::{PlaceList, Target, made, tables};
 use drafts::Draft;
 use places::PointerBlock;
-use rules::{Refusal, Setting, SlotNo, View};
+use rules::{Refusal, SlotNo};
 use slots::Table;
-use views::opened;
+use views::opened::Opened;
 
 // Refusals 6 to 8, or the job of disable: a slot that no place gives is not in the boot order.
 #[tactic(auto, unfolding(rules::specs::Answers::unless), using(drafts::proofs::Asking::disable_asked, drafts::proofs::Locating::pointers_fit))]
-pub fn disable_by(
-    image: &[u8],
-    setting: Setting,
-    v: View,
-    slot: SlotNo,
-    room: &mut [u8],
-) -> Result<Draft, Refusal>
-    requires seen { view setting image.now ≡ given v }
-    requires inside { Located image.now v }
-    requires room { length room.old ≡ block_size }
-    ensures job { job_of image.now room.new result ≡ job_by setting image.now v (disable slot.0) }
-    ensures sound { IfOk result (λ d. Sound image.now d) }
+pub fn disable_by(flash: &Opened<'_>, slot: SlotNo, room: &mut [u8]) -> Result<Draft, Refusal>
+    requires { length room.old ≡ block_size }
+    ensures job { job_of flash.now.image.now room.new result
+        ≡ job_by flash.now.setting flash.now.image.now flash.now.view (disable slot.0) }
+    ensures sound { IfOk result (λ d. Sound flash.now.image.now d) }
 {
-    drafts::refusals::ask_slot(image, v, slot)?;
-    let t = opened::table_of(image, v);
-    let p = opened::pointers_of(image, v);
+    drafts::refusals::ask_slot(flash, slot)?;
+    let t = flash.table();
+    let p = flash.pointers();
     let start = tables::slot_start(&t, slot);
     let found = place_lists::places_giving(&t, &p, slot, start);
     if found.count == 0 {
         return Err(Refusal::NotInOrder);
     }
-    let to = made::target(image.len(), setting.granule, v.cpb0, v.cpb1);
+    let to = made::target(
+        flash.image.len(),
+        flash.setting.granule,
+        flash.view.cpb0,
+        flash.view.cpb1,
+    );
     Ok(disable_job(&t, &p, to, slot, start, found, room))
 }
 

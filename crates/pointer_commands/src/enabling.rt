@@ -1,47 +1,42 @@
 // Enable, once the view of the flash is known.
 ghost use Rattle.std.specs.Prelude.{◌≡◌, true, IfOk, length, get_or};
 ghost use Rattle.rules.specs.Bytes.{block_size};
-ghost use Rattle.rules.specs.Answers.{given};
 ghost use Rattle.rules.specs.Table.{starts};
-ghost use Rattle.rules.specs.Copies.{view};
 ghost use Rattle.rules.specs.Commands.{enough_places, enable};
-ghost use Rattle.views.specs.Inner.Located.{Located};
 ghost use Rattle.drafts.specs.JobFor.{enable_job, job_by};
 ghost use Rattle.drafts.specs.Inner.Drafted.{job_of, Sound, Means};
 
 use blocks::{Target, made, tables};
 use drafts::Draft;
 use places::PointerBlock;
-use rules::{Refusal, Setting, SlotNo, View};
+use rules::{Refusal, SlotNo};
 use slots::Table;
-use views::opened;
+use views::opened::Opened;
 
 // Refusals 6, 7, 14 and 15, or the job of enable.
 #[tactic(auto, unfolding(rules::specs::Answers::unless), using(drafts::proofs::Asking::enable_asked, drafts::proofs::Asking::slot_counted, drafts::proofs::Asking::begins_inside, drafts::proofs::Locating::pointers_fit))]
-pub fn enable_by(
-    image: &[u8],
-    setting: Setting,
-    v: View,
-    slot: SlotNo,
-    room: &mut [u8],
-) -> Result<Draft, Refusal>
-    requires seen { view setting image.now ≡ given v }
-    requires inside { Located image.now v }
-    requires room { length room.old ≡ block_size }
-    ensures job { job_of image.now room.new result ≡ job_by setting image.now v (enable slot.0) }
-    ensures sound { IfOk result (λ d. Sound image.now d) }
+pub fn enable_by(flash: &Opened<'_>, slot: SlotNo, room: &mut [u8]) -> Result<Draft, Refusal>
+    requires { length room.old ≡ block_size }
+    ensures job { job_of flash.now.image.now room.new result
+        ≡ job_by flash.now.setting flash.now.image.now flash.now.view (enable slot.0) }
+    ensures sound { IfOk result (λ d. Sound flash.now.image.now d) }
 {
-    drafts::refusals::ask_slot(image, v, slot)?;
-    let t = opened::table_of(image, v);
+    drafts::refusals::ask_slot(flash, slot)?;
+    let t = flash.table();
     let start = tables::slot_start(&t, slot);
-    if copies::is_erased(image, start as usize) {
+    if copies::is_erased(flash.image, start as usize) {
         return Err(Refusal::SlotEmpty);
     }
-    let p = opened::pointers_of(image, v);
+    let p = flash.pointers();
     if !pointer_blocks::enough_places(&t, &p, slot) {
         return Err(Refusal::NoPlaceLeft);
     }
-    let to = made::target(image.len(), setting.granule, v.cpb0, v.cpb1);
+    let to = made::target(
+        flash.image.len(),
+        flash.setting.granule,
+        flash.view.cpb0,
+        flash.view.cpb1,
+    );
     Ok(enable_job(&t, &p, to, slot, start, room))
 }
 

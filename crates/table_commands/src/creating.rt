@@ -1,12 +1,9 @@
 // Create, once the view of the flash is known.
 ghost use Rattle.std.specs.Prelude.{◌≡◌, true, not, IfOk, length};
 ghost use Rattle.rules.specs.Bytes.{block_size};
-ghost use Rattle.rules.specs.Answers.{given};
 ghost use Rattle.rules.specs.Lists.{any};
 ghost use Rattle.rules.specs.Table.{has_name};
-ghost use Rattle.rules.specs.Copies.{view};
 ghost use Rattle.rules.specs.Commands.{create, name_allowed};
-ghost use Rattle.views.specs.Inner.Located.{Located};
 ghost use Rattle.drafts.specs.JobFor.{job_by};
 ghost use Rattle.drafts.specs.Inner.Asked.{new_asked};
 ghost use Rattle.drafts.specs.Inner.Drafted.{job_of, Sound};
@@ -15,23 +12,22 @@ use super::is_free;
 use blocks::{made, tables};
 use drafts::Draft;
 use entries::Entries;
-use rules::{EntryNo, Refusal, Setting, View};
-use views::opened;
+use rules::{EntryNo, Refusal};
+use views::opened::Opened;
 
 // Refusals 6, 9, 10, 40 and 41: both pairs agree, the name may be given and no entry has it, the length is right, and a
 // row is left.
 #[tactic(auto, unfolding(drafts::specs::Inner::Asked::new_asked, rules::specs::Answers::unless))]
-fn ask_new(image: &[u8], v: View, name: &[u8], size: u64) -> Result<(), Refusal>
-    requires { Located image.now v }
-    ensures { result ≡ new_asked image.now v name.now size }
+fn ask_new(flash: &Opened<'_>, name: &[u8], size: u64) -> Result<(), Refusal>
+    ensures { result ≡ new_asked flash.now.image.now flash.now.view name.now size }
 {
-    if !drafts::refusals::copies_equal(image, v) {
+    if !drafts::refusals::copies_equal(flash) {
         return Err(Refusal::CopiesDiffer);
     }
     if !tables::name_allowed(name) {
         return Err(Refusal::NameNotAllowed);
     }
-    let t = opened::table_of(image, v);
+    let t = flash.table();
     if !is_new(t.entries(), name) {
         return Err(Refusal::NameTaken);
     }
@@ -56,29 +52,31 @@ fn is_new(entries: &Entries<'_>, name: &[u8]) -> bool
 // These, then 42, or the job of create: the lowest start, and the table with the new row.
 #[tactic(auto, unfolding(rules::specs::Answers::unless), using(crate::proofs::NewAsked::create_asked, drafts::proofs::Locating::tables_fit, crate::proofs::NewAsked::placed))]
 pub fn create_by(
-    image: &[u8],
-    setting: Setting,
-    v: View,
+    flash: &Opened<'_>,
     name: &[u8],
     size: u32,
     room: &mut [u8],
 ) -> Result<Draft, Refusal>
-    requires seen { view setting image.now ≡ given v }
-    requires inside { Located image.now v }
-    requires room { length room.old ≡ block_size }
-    ensures job { job_of image.now room.new result ≡ job_by setting image.now v (create name.now size) }
-    ensures sound { IfOk result (λ d. Sound image.now d) }
+    requires { length room.old ≡ block_size }
+    ensures job { job_of flash.now.image.now room.new result
+        ≡ job_by flash.now.setting flash.now.image.now flash.now.view (create name.now size) }
+    ensures sound { IfOk result (λ d. Sound flash.now.image.now d) }
 {
     let long = size as u64;
-    ask_new(image, v, name, long)?;
-    let t = opened::table_of(image, v);
-    let p = opened::pointers_of(image, v);
-    let len = image.len() as u64;
+    ask_new(flash, name, long)?;
+    let t = flash.table();
+    let p = flash.pointers();
+    let len = flash.image.len() as u64;
     let start = rooms::lowest_start(t.entries(), &p, len, long);
     if len <= start {
         return Err(Refusal::NoStart);
     }
-    let to = made::target(image.len(), setting.granule, v.spt0, v.spt1);
+    let to = made::target(
+        flash.image.len(),
+        flash.setting.granule,
+        flash.view.spt0,
+        flash.view.spt1,
+    );
     table_rows::put_new_row(t.bytes(), name, start, long, room);
     Ok(Draft::Rewritten(made::pair_plan(to)))
 }

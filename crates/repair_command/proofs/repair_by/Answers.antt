@@ -12,16 +12,16 @@ use Rattle.repair_command.proofs.repair_by.Goals as goal
 
 pub overflow_cast-table_at : goal.overflow_cast-table_at
 overflow_cast-table_at c =
-    let v = c.args.v in
-    let l = c.requires.inside in
+    let v = c.args.flash.now.view in
+    let l = c.args.flash.now.inside in
     let small = either_within (eqb v.table v.spt0) v.spt1 v.spt0 0x10000000
     (omega (arith, l.spt1_inside, l.short)) (omega (arith, l.spt0_inside, l.short)) in
     omega (arith, small, c.other_copy-table_at.ensures)
 
 pub overflow_cast-pointers_at : goal.overflow_cast-pointers_at
 overflow_cast-pointers_at c =
-    let v = c.args.v in
-    let l = c.requires.inside in
+    let v = c.args.flash.now.view in
+    let l = c.args.flash.now.inside in
     let small = either_within (eqb v.pointers v.cpb0) v.cpb1 v.cpb0 0x10000000
     (omega (arith, l.cpb1_inside, l.short)) (omega (arith, l.cpb0_inside, l.short)) in
     omega (arith, small, c.other_copy-pointers_at.ensures)
@@ -29,7 +29,7 @@ overflow_cast-pointers_at c =
 pub returns-clause-sound : goal.returns-clause-sound
 unfolding Sound rewrites
 returns-clause-sound c =
-    (ap (λ (q : Plan). q.count) c.rewrites_plan-plan.ensures, (c.requires.inside.table_inside, c.requires.inside.pointers_inside))
+    (ap (λ (q : Plan). q.count) c.rewrites_plan-plan.ensures, (c.args.flash.now.inside.table_inside, c.args.flash.now.inside.pointers_inside))
 
 pub returns-clause-job : goal.returns-clause-job
 unfolding drafted job job_by job_for repair_job repaired rewrites

@@ -16,20 +16,20 @@ pub returns-then-found-eq0-clause-job : goal.returns-then-found-eq0-clause-job
 unfolding place_list
 returns-then-found-eq0-clause-job c =
     let a = c.args in
-    let none : length (places_giving (block a.image.now a.v.table) (block a.image.now a.v.pointers) a.slot.0) ≡ 0 =
-    rw (c.table_of-t.ensures, c.pointers_of-p.ensures) at
+    let none : length (places_giving (block a.flash.now.image.now a.flash.now.view.table) (block a.flash.now.image.now a.flash.now.view.pointers) a.slot.0) ≡ 0 =
+    rw (c.table-t.ensures, c.pointers-p.ensures) at
     (sym (ap (λ (f : PlaceList). f.count) c.places_giving-found.ensures) ∙ c.if-found-eq0.true) in
-    disable_refused a.setting a.image.now a.v c.requires.seen a.slot.0 (sym c.ask_slot.ensures ∙ c.in_ok-ask_slot.was) none
+    disable_refused a.flash.now.setting a.flash.now.image.now a.flash.now.view c.args.flash.now.seen a.slot.0 (sym c.ask_slot.ensures ∙ c.in_ok-ask_slot.was) none
 
 pub returns-clause-job : goal.returns-clause-job
 unfolding job_for place_list
 returns-clause-job c =
     let a = c.args in
     let counted : c.places_giving-found.result.count
-    ≡ length (places_giving (block a.image.now a.v.table) (block a.image.now a.v.pointers) a.slot.0) =
-    rw (c.table_of-t.ensures, c.pointers_of-p.ensures) at (ap (λ (f : PlaceList). f.count) c.places_giving-found.ensures) in
-    let some : 0 < length (places_giving (block a.image.now a.v.table) (block a.image.now a.v.pointers) a.slot.0) =
+    ≡ length (places_giving (block a.flash.now.image.now a.flash.now.view.table) (block a.flash.now.image.now a.flash.now.view.pointers) a.slot.0) =
+    rw (c.table-t.ensures, c.pointers-p.ensures) at (ap (λ (f : PlaceList). f.count) c.places_giving-found.ensures) in
+    let some : 0 < length (places_giving (block a.flash.now.image.now a.flash.now.view.table) (block a.flash.now.image.now a.flash.now.view.pointers) a.slot.0) =
     omega (arith, counted, c.if-found-eq0.false) in
-    ap given (c.disable_job.ensures.job a.image.now)
-    ∙ rw (c.target-to.ensures, c.table_of-t.ensures, c.pointers_of-p.ensures)
-    (disable_passed a.setting a.image.now a.v c.requires.seen a.slot.0 (sym c.ask_slot.ensures ∙ c.in_ok-ask_slot.was) some)
+    ap given (c.disable_job.ensures.job a.flash.now.image.now)
+    ∙ rw (c.target-to.ensures, c.table-t.ensures, c.pointers-p.ensures)
+    (disable_passed a.flash.now.setting a.flash.now.image.now a.flash.now.view c.args.flash.now.seen a.slot.0 (sym c.ask_slot.ensures ∙ c.in_ok-ask_slot.was) some)

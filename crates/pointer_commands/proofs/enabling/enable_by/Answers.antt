@@ -15,12 +15,12 @@ pub returns-clause-job : goal.returns-clause-job
 unfolding job_for
 returns-clause-job c =
     let a = c.args in
-    let t = block a.image.now a.v.table in
-    let p = block a.image.now a.v.pointers in
-    let sent : slot_empty a.image.now (get_or (starts t) a.slot.0 0) ≡ false =
-    rw (c.slot_start-start.ensures, c.table_of-t.ensures) at (sym c.is_erased.ensures ∙ c.if-is_erased.false) in
+    let t = block a.flash.now.image.now a.flash.now.view.table in
+    let p = block a.flash.now.image.now a.flash.now.view.pointers in
+    let sent : slot_empty a.flash.now.image.now (get_or (starts t) a.slot.0 0) ≡ false =
+    rw (c.slot_start-start.ensures, c.table-t.ensures) at (sym c.is_erased.ensures ∙ c.if-is_erased.false) in
     let room : enough_places (starts t) p a.slot.0 ≡ true =
-    rw (c.table_of-t.ensures, c.pointers_of-p.ensures) at (passed c.enough_places.ensures (ap not c.if-not-enough_places.false)) in
-    ap given (c.enable_job.ensures.job a.image.now)
-    ∙ rw (c.target-to.ensures, c.table_of-t.ensures, c.pointers_of-p.ensures)
-    (enable_passed a.setting a.image.now a.v c.requires.seen a.slot.0 (sym c.ask_slot.ensures ∙ c.in_ok-ask_slot.was) sent room)
+    rw (c.table-t.ensures, c.pointers-p.ensures) at (passed c.enough_places.ensures (ap not c.if-not-enough_places.false)) in
+    ap given (c.enable_job.ensures.job a.flash.now.image.now)
+    ∙ rw (c.target-to.ensures, c.table-t.ensures, c.pointers-p.ensures)
+    (enable_passed a.flash.now.setting a.flash.now.image.now a.flash.now.view c.args.flash.now.seen a.slot.0 (sym c.ask_slot.ensures ∙ c.in_ok-ask_slot.was) sent room)

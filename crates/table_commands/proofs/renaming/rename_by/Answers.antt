@@ -18,19 +18,19 @@ use Rattle.table_commands.proofs.renaming.rename_by.Goals as goal
 
 pub rename_job-requires-clause-few : goal.rename_job-requires-clause-few
 rename_job-requires-clause-few c =
-    rw c.table_of-t.ensures (omega (arith, length-entries (block c.args.image.now c.args.v.table), c.requires.inside.count_right))
+    rw c.table-t.ensures (omega (arith, length-entries (block c.args.flash.now.image.now c.args.flash.now.view.table), c.args.flash.now.inside.count_right))
 
 pub returns-clause-job : goal.returns-clause-job
 unfolding job_for
 returns-clause-job c =
     let a = c.args in
-    let t = block a.image.now a.v.table in
+    let t = block a.flash.now.image.now a.flash.now.view.table in
     let right : name_allowed a.name.now ≡ true = passed c.name_allowed.ensures (ap not c.if-not-name_allowed.false) in
-    let asked : slot_asked a.image.now a.v a.slot.0 ≡ given tt = sym c.ask_slot.ensures ∙ c.in_ok-ask_slot.was in
+    let asked : slot_asked a.flash.now.image.now a.flash.now.view a.slot.0 ≡ given tt = sym c.ask_slot.ensures ∙ c.in_ok-ask_slot.was in
     let row : c.unwrap-row.result.0 ≡ slot_row (entries t) a.slot.0 =
-    row_is a.image.now a.v a.slot.0 asked c.unwrap-row.ensures (rw c.table_of-t.ensures at c.row_of.ensures) in
+    row_is a.flash.now.image.now a.flash.now.view a.slot.0 asked c.unwrap-row.ensures (rw c.table-t.ensures at c.row_of.ensures) in
     let free : name_free (entries t) (slot_row (entries t) a.slot.0) a.name.now ≡ true =
-    rw (row, c.entries.ensures, c.table_of-t.ensures) at (passed c.is_free.ensures (ap not c.if-not-is_free.false)) in
-    ap given (c.rename_job.ensures.job a.image.now)
-    ∙ rw (c.target-to.ensures, c.table_of-t.ensures, rename_by_row _ _ _ _ a.slot.0 _ t a.name.now row (whole_if_allowed a.name.now right))
-    (rename_passed a.setting a.image.now a.v c.requires.seen a.slot.0 asked a.name.now right free)
+    rw (row, c.entries.ensures, c.table-t.ensures) at (passed c.is_free.ensures (ap not c.if-not-is_free.false)) in
+    ap given (c.rename_job.ensures.job a.flash.now.image.now)
+    ∙ rw (c.target-to.ensures, c.table-t.ensures, rename_by_row _ _ _ _ a.slot.0 _ t a.name.now row (whole_if_allowed a.name.now right))
+    (rename_passed a.flash.now.setting a.flash.now.image.now a.flash.now.view c.args.flash.now.seen a.slot.0 asked a.name.now right free)
