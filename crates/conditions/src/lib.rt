@@ -4,12 +4,10 @@
 ghost use Rattle.std.specs.Prelude.{◌≡◌, ◌&&◌, ◌+◌, ◌≤◌, length};
 ghost use Rattle.rules.specs.Lists.{same};
 ghost use Rattle.rules.specs.Bytes.{block, block_size};
-ghost use Rattle.rules.specs.Answers.{given};
-ghost use Rattle.rules.specs.Copies.{view};
-ghost use Rattle.views.specs.Inner.Located.{Located};
 ghost use Rattle.conditions.specs.Condition.{condition_by, condition};
 
-use rules::{Refusal, Setting, View};
+use rules::{Refusal, Setting};
+use views::opened::{self, Opened};
 
 // For each of the four blocks whether it stands, for each pair whether it agrees.
 #[derive(Clone, Copy, Debug, PartialEq, Eq)]
@@ -27,16 +25,17 @@ pub struct Condition {
 pub fn condition_of(image: &[u8], setting: Setting) -> Result<Condition, Refusal>
     ensures { result ≡ condition setting image.now }
 {
-    let v = views::view(image, setting)?;
-    Ok(condition_by(image, setting, v))
+    let flash = opened::open(image, setting)?;
+    Ok(condition_by(&flash))
 }
 
 #[tactic(auto, using(views::proofs::Opening::granule_positive, views::proofs::Opening::same_spt0, views::proofs::Opening::same_spt1), unfolding(crate::specs::Condition::condition_by, rules::specs::Copies::tables_agree, rules::specs::Copies::pointers_agree, rules::specs::Copies::pair_agrees))]
-fn condition_by(image: &[u8], setting: Setting, v: View) -> Condition
-    requires seen { view setting image.now ≡ given v }
-    requires inside { Located image.now v }
-    ensures { result ≡ condition_by setting image.now v }
+fn condition_by(flash: &Opened<'_>) -> Condition
+    ensures { result ≡ condition_by flash.now.setting flash.now.image.now flash.now.view }
 {
+    let image = flash.image;
+    let setting = flash.setting;
+    let v = flash.view;
     let spt0 = table::table_stands(image, v.spt0, setting);
     let spt1 = table::table_stands(image, v.spt1, setting);
     let cpb0 = places::pointers_stand(image, v.cpb0);

@@ -10,8 +10,8 @@ use views::opened;
 pub fn entry_total(image: &[u8], setting: Setting) -> Result<usize, Refusal>
     ensures { result ≡ entry_total setting image.now }
 {
-    let v = views::view(image, setting)?;
-    Ok(entries::entry_count(opened::table_of(image, v).bytes()))
+    let flash = opened::open(image, setting)?;
+    Ok(entries::entry_count(flash.table().bytes()))
 }
 
 // Refusals 1, 2, 3, 50, 51, 5 and 92, or the number, start, length and flags of an entry.
@@ -19,8 +19,8 @@ pub fn entry_total(image: &[u8], setting: Setting) -> Result<usize, Refusal>
 pub fn entry_info(image: &[u8], setting: Setting, entry: EntryNo) -> Result<SlotInfo, Refusal>
     ensures { result ≡ entry_info setting image.now entry.0 }
 {
-    let v = views::view(image, setting)?;
-    infos::entry::info_in(opened::table_of(image, v).entries(), entry)
+    let flash = opened::open(image, setting)?;
+    infos::entry::info_in(flash.table().entries(), entry)
 }
 
 // The name of an entry up to its zero, as a part of the image; an empty part when refused.
@@ -28,8 +28,8 @@ pub fn entry_info(image: &[u8], setting: Setting, entry: EntryNo) -> Result<Slot
 pub fn entry_name(image: &[u8], setting: Setting, entry: EntryNo) -> &[u8]
     ensures { result.now ≡ entry_name setting image.now entry.0 }
 {
-    match views::view(image, setting) {
-        Ok(v) => infos::entry::name_in(opened::table_of(image, v).entries(), entry),
+    match opened::open(image, setting) {
+        Ok(flash) => infos::entry::name_in(flash.table().entries(), entry),
         Err(_) => &[],
     }
 }

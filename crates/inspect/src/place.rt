@@ -11,8 +11,8 @@ use views::opened;
 pub fn place_total(image: &[u8], setting: Setting) -> Result<usize, Refusal>
     ensures { result ≡ place_total setting image.now }
 {
-    let v = views::view(image, setting)?;
-    Ok(opened::pointers_of(image, v).count())
+    let flash = opened::open(image, setting)?;
+    Ok(flash.pointers().count())
 }
 
 // Refusals 1, 2, 3, 50, 51, 5 and 93, or what a place holds by the table read.
@@ -20,10 +20,6 @@ pub fn place_total(image: &[u8], setting: Setting) -> Result<usize, Refusal>
 pub fn place_at(image: &[u8], setting: Setting, place: PlaceNo) -> Result<Held, Refusal>
     ensures { result ≡ place_at setting image.now place.0 }
 {
-    let v = views::view(image, setting)?;
-    place_infos::held_in(
-        &opened::table_of(image, v),
-        &opened::pointers_of(image, v),
-        place,
-    )
+    let flash = opened::open(image, setting)?;
+    place_infos::held_in(&flash.table(), &flash.pointers(), place)
 }

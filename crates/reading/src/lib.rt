@@ -27,12 +27,8 @@ pub fn order_list(image: &[u8], setting: Setting, row: &mut [u32]) -> Result<usi
     ensures written { row.new ≡ row_after
         (order_list setting image.now (length row.old)) row.old }
 {
-    let v = views::view(image, setting)?;
-    order_lists::list_order(
-        &opened::table_of(image, v),
-        &opened::pointers_of(image, v),
-        row,
-    )
+    let flash = opened::open(image, setting)?;
+    order_lists::list_order(&flash.table(), &flash.pointers(), row)
 }
 
 // How many application slots the table read has.
@@ -40,8 +36,8 @@ pub fn order_list(image: &[u8], setting: Setting, row: &mut [u32]) -> Result<usi
 pub fn slot_count(image: &[u8], setting: Setting) -> Result<usize, Refusal>
     ensures { result ≡ slot_count setting image.now }
 {
-    let v = views::view(image, setting)?;
-    Ok(opened::table_of(image, v).slot_total())
+    let flash = opened::open(image, setting)?;
+    Ok(flash.table().slot_total())
 }
 
 // The entry number, start, length and flags of a slot.
@@ -49,8 +45,8 @@ pub fn slot_count(image: &[u8], setting: Setting) -> Result<usize, Refusal>
 pub fn slot_info(image: &[u8], setting: Setting, slot: SlotNo) -> Result<SlotInfo, Refusal>
     ensures { result ≡ slot_info setting image.now slot.0 }
 {
-    let v = views::view(image, setting)?;
-    infos::slot::info_in(opened::table_of(image, v).entries(), slot)
+    let flash = opened::open(image, setting)?;
+    infos::slot::info_in(flash.table().entries(), slot)
 }
 
 // The name of a slot up to its zero, as a part of the image; an empty part when refused.
@@ -58,8 +54,8 @@ pub fn slot_info(image: &[u8], setting: Setting, slot: SlotNo) -> Result<SlotInf
 pub fn slot_name(image: &[u8], setting: Setting, slot: SlotNo) -> &[u8]
     ensures { result.now ≡ slot_name setting image.now slot.0 }
 {
-    match views::view(image, setting) {
-        Ok(v) => infos::slot::name_in(opened::table_of(image, v).entries(), slot),
+    match opened::open(image, setting) {
+        Ok(flash) => infos::slot::name_in(flash.table().entries(), slot),
         Err(_) => &image[..0],
     }
 }

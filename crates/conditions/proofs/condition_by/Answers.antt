@@ -7,7 +7,7 @@ use Rattle.conditions.proofs.condition_by.Goals as goal
 pub returns : goal.returns
 unfolding condition_by tables_agree pointers_agree pair_agrees
 returns c =
-    let k = seen _ _ _ c.requires.seen in
+    let k = seen _ _ _ c.args.flash.now.seen in
     rw (
       c.agree.ensures,
       c.agree-2.ensures,
