@@ -33,6 +33,7 @@ pub fn run_if_started(
 }
 
 // Any command by its function for C; the name is a rename's or a create's.
+#[tactic(auto, unfolding(commands::specs::Begins::command_of))]
 pub fn begin(image: &[u8], setting: Setting, command: Command, name: &[u8], job: &mut [u8]) -> u8
     ensures { handed result job.new
         ≡ started_into job.old

@@ -1,5 +1,5 @@
 // A half-done erase by a choice of its bytes, for the programs that cut the power inside an erase.
-ghost use Rattle.std.specs.Prelude.{◌≡◌, cond, ◌-◌};
+ghost use Rattle.std.specs.Prelude.{◌≡◌, cond};
 ghost use Rattle.rules.specs.Bytes.{erased_byte};
 ghost use Rattle.harness.specs.Choices.{mixed, wipes, torn_inside};
 
@@ -18,6 +18,7 @@ pub enum Choice {
 const MODULUS: u64 = 4294967296;
 
 // Half of all bytes, without a pattern.
+#[tactic(auto, unfolding(crate::specs::Choices::mixed))]
 fn mixed(seed: u64, i: u64) -> u64
     ensures { result ≡ mixed seed i }
 {
@@ -26,19 +27,13 @@ fn mixed(seed: u64, i: u64) -> u64
     (product ^ product / 8192) % 2
 }
 
-// The difference, 0 where there is none.
-fn saturating_sub(a: usize, b: usize) -> usize
-    ensures { result ≡ a - b }
-{
-    if a <= b { 0 } else { a - b }
-}
-
+#[tactic(auto, unfolding(crate::specs::Choices::wipes))]
 fn is_wiped(choice: Choice, size: usize, i: usize) -> bool
     ensures { result ≡ wipes choice size i }
 {
     match choice {
         Choice::Lowest(n) => i < n,
-        Choice::Highest(n) => saturating_sub(size, n) <= i,
+        Choice::Highest(n) => size.saturating_sub(n) <= i,
         Choice::Alone(j) => i == j,
         Choice::AllBut(j) => i != j,
         Choice::Every(j) => i % 2 == j,
@@ -49,10 +44,7 @@ fn is_wiped(choice: Choice, size: usize, i: usize) -> bool
 fn left_of(byte: u8, wiped: bool) -> u8
     ensures { result ≡ cond wiped erased_byte byte }
 {
-    if wiped {
-        return 0xFF;
-    }
-    byte
+    if wiped { 0xFF } else { byte }
 }
 
 // An erase of so many bytes at an address that wiped those chosen. Nothing where they pass the image's end.
@@ -65,9 +57,7 @@ pub fn tear(image: &mut [u8], at: usize, size: usize, choice: Choice)
     if image.len() - size < at {
         return;
     }
-    let mut i = 0;
-    while i < size {
+    for i in 0..size {
         image[at + i] = left_of(image[at + i], is_wiped(choice, size, i));
-        i += 1;
     }
 }

@@ -9,7 +9,7 @@
 
 ghost use Rattle.std.specs.Prelude.{◌≡◌, length};
 
-use book::{Book, Read};
+use book::Book;
 use commands::Command;
 use harness::tearing::Choice;
 use jobs::Job;
@@ -40,16 +40,8 @@ fn image_buffer() -> [u8; LONGEST]
 
 // A command of 16 steps or more: it enables one of the first two slots that is not the first of the order.
 fn further(cut: Book) -> Command {
-    let order = cut.order;
-    let row = order.row;
-    if row[0] == 0 {
-        return Command::Enable(SlotNo(1));
-    }
-    Command::Enable(SlotNo(0))
-}
-
-fn is_long(done: Result<usize, Refusal>) -> bool {
-    done.is_ok_and(|n| 16 <= n)
+    let first = if cut.order.row[0] == 0 { 1 } else { 0 };
+    Command::Enable(SlotNo(first))
 }
 
 // One image copied over another of the same length.
@@ -61,7 +53,13 @@ fn copy(from: &[u8], to: &mut [u8]) {
 }
 
 // The flash, with a choice of the granule at an address wiped, and what it reads as.
-fn cut_flash(flash: &[u8], work: &mut [u8], setting: Setting, at: usize, choice: Choice) -> Read {
+fn cut_flash(
+    flash: &[u8],
+    work: &mut [u8],
+    setting: Setting,
+    at: usize,
+    choice: Choice,
+) -> Result<Book, Refusal> {
     copy(flash, work);
     harness::tearing::tear(work, at, setting.granule, choice);
     book::read_book(work, setting)
@@ -69,17 +67,17 @@ fn cut_flash(flash: &[u8], work: &mut [u8], setting: Setting, at: usize, choice:
 
 // A repair keeps the reading and makes the pairs agree.
 fn is_repaired(work: &mut [u8], setting: Setting, cut: Book) -> bool {
-    harness::finish(work, setting, Command::Repair);
-    book::reads_as(book::read_book(work, setting), cut) & book::pairs_agree(work, setting)
+    let _ = harness::finish(work, setting, Command::Repair);
+    book::reads_as(book::read_book(work, setting), cut) && book::pairs_agree(work, setting)
 }
 
 // A further command leaves what the book says.
 fn is_right_then(work: &mut [u8], setting: Setting, cut: Book) -> bool {
     let next = further(cut);
     let expected = book::booked(cut, next, work, setting);
-    let long = is_long(harness::finish(work, setting, next));
-    let held = book::reads_as(book::read_book(work, setting), expected);
-    long & (held & book::pairs_agree(work, setting))
+    harness::finish(work, setting, next).is_ok_and(|n| 16 <= n)
+        && book::reads_as(book::read_book(work, setting), expected)
+        && book::pairs_agree(work, setting)
 }
 
 fn try_cut(
@@ -93,11 +91,15 @@ fn try_cut(
     t: Tally,
 ) -> Tally {
     let read = cut_flash(flash, work, setting, at, choice);
-    let cut = read.book;
-    let repaired = is_repaired(work, setting, cut);
-    let right = is_right_then(work, setting, cut);
-    tally::counted(
-        t,
+    // A flash that is not read is not repaired, and no further command starts on it.
+    let (repaired, right) = match read {
+        Err(_) => (false, false),
+        Ok(cut) => {
+            let repaired = is_repaired(work, setting, cut);
+            (repaired, is_right_then(work, setting, cut))
+        }
+    };
+    t.counted(
         book::reads_as(read, old),
         book::reads_as(read, new),
         repaired,
@@ -161,12 +163,18 @@ fn try_job(
     old: Book,
     new: Book,
 ) -> Tally {
-    let mut sum = tally::nothing();
+    let mut sum = Tally::default();
     for _ in 0..job.remaining() {
         sum = try_next(flash, work, setting, job.next_step(), old, new, sum);
         let _ = job.run(flash, 1);
     }
     sum
+}
+
+// The reading of an image and the job of a command that starts on it.
+fn started(image: &[u8], setting: Setting, command: Command) -> Result<(Book, Job), Refusal> {
+    let job = harness::begin(image, setting, command)?;
+    Ok((book::read_book(image, setting)?, job))
 }
 
 // Starts a command on an image, and tries every cut of its job on a flash that starts as this image.
@@ -179,20 +187,15 @@ fn try_start(
     command: Command,
 ) -> io::Result<()> {
     copy(image, flash);
-    let read = book::read_book(image, setting);
-    let old = read.book;
-    let begun = harness::begin(image, setting, command);
-    let job = begun.job;
-    let answer = begun.answer;
-    let sum = try_job(
-        flash,
-        work,
-        setting,
-        job,
-        old,
-        book::booked(old, command, image, setting),
-    );
-    printing::print_result(rt, answer, job.remaining(), sum)
+    match started(image, setting, command) {
+        Err(why) => println!(rt; "refused {}", why.number()),
+        Ok((old, job)) => {
+            let new = book::booked(old, command, image, setting);
+            let steps = job.remaining();
+            let sum = try_job(flash, work, setting, job, old, new);
+            printing::print_tally(rt, steps, sum)
+        }
+    }
 }
 
 fn try_command(

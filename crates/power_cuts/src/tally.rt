@@ -1,6 +1,6 @@
 // Counts of what was read after cuts.
 
-#[derive(Clone, Copy)]
+#[derive(Clone, Copy, Default)]
 pub struct Tally {
     pub cuts: u64,
     pub old: u64,
@@ -10,32 +10,20 @@ pub struct Tally {
     pub right: u64,
 }
 
-pub fn nothing() -> Tally {
-    Tally {
-        cuts: 0,
-        old: 0,
-        new: 0,
-        neither: 0,
-        repaired: 0,
-        right: 0,
-    }
-}
-
 fn one_more(n: u64, test: bool) -> u64 {
-    if test {
-        return n.wrapping_add(1);
-    }
-    n
+    n.wrapping_add(u64::from(test))
 }
 
-// One cut more; where the old reading is also the new one it counts as old.
-pub fn counted(t: Tally, old: bool, new: bool, repaired: bool, right: bool) -> Tally {
-    Tally {
-        cuts: one_more(t.cuts, true),
-        old: one_more(t.old, old),
-        new: one_more(t.new, new & !old),
-        neither: one_more(t.neither, !(old | new)),
-        repaired: one_more(t.repaired, repaired),
-        right: one_more(t.right, right),
+impl Tally {
+    // One cut more; where the old reading is also the new one it counts as old.
+    pub fn counted(self, old: bool, new: bool, repaired: bool, right: bool) -> Tally {
+        Tally {
+            cuts: one_more(self.cuts, true),
+            old: one_more(self.old, old),
+            new: one_more(self.new, new && !old),
+            neither: one_more(self.neither, !(old || new)),
+            repaired: one_more(self.repaired, repaired),
+            right: one_more(self.right, right),
+        }
     }
 }

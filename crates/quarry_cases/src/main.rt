@@ -60,9 +60,9 @@ fn create_p4(rt: &impl Print, image: &mut [u8], entry: EntryNo) -> io::Result<()
 
 // A command cut after some steps.
 fn cut(rt: &impl Print, image: &mut [u8], command: Command, steps: usize) -> io::Result<()> {
-    let begun = harness::begin(image, quarry(), command);
-    let mut job = begun.job;
-    let _ = job.run(image, steps);
+    if let Ok(mut job) = harness::begin(image, quarry(), command) {
+        let _ = job.run(image, steps);
+    }
     printing::print_command(rt, command)?;
     printing::print_cut(rt, steps)
 }

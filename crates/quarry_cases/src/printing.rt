@@ -1,6 +1,5 @@
 // What the cases print.
-use book::Answer;
-use book_orders::{Order, ROOM};
+use book_orders::Order;
 use commands::Command;
 use rules::{EntryNo, PlaceNo, Refusal, Setting, SlotNo};
 use std::io;
@@ -28,7 +27,7 @@ pub fn print_done(rt: &impl Print, done: Result<usize, Refusal>) -> io::Result<(
 }
 
 fn print_refusal(rt: &impl Print, why: Refusal) -> io::Result<()> {
-    println!(rt; "refused {}", why.number)
+    println!(rt; "refused {}", why.number())
 }
 
 pub fn print_cut(rt: &impl Print, steps: usize) -> io::Result<()> {
@@ -37,33 +36,21 @@ pub fn print_cut(rt: &impl Print, steps: usize) -> io::Result<()> {
 
 // The boot order, or the refusal.
 pub fn print_order(rt: &impl Print, image: &[u8], setting: Setting) -> io::Result<()> {
-    let read = book::read_book(image, setting);
-    let answer = read.answer;
-    let kept = read.book;
-    let order = kept.order;
-    match answer {
-        Answer::Refused(why) => print_refusal(rt, why),
-        Answer::Given => {
+    match book::read_book(image, setting) {
+        Err(why) => print_refusal(rt, why),
+        Ok(kept) => {
             print!(rt; "order")?;
-            print_slots(rt, order)?;
+            print_slots(rt, kept.order)?;
             println!(rt;)
         }
     }
 }
 
 fn print_slots(rt: &impl Print, order: Order) -> io::Result<()> {
-    let row = order.row;
-    for i in 0..ROOM {
-        if order.count <= i {
-            break;
-        }
-        print_slot(rt, SlotNo(row[i]))?;
+    for slot in order.row.iter().take(order.count) {
+        print!(rt; " {slot}")?;
     }
     Ok(())
-}
-
-fn print_slot(rt: &impl Print, slot: SlotNo) -> io::Result<()> {
-    print!(rt; " {}", slot.0)
 }
 
 // The value of eight bytes; 0 where they pass the end.

@@ -5,21 +5,19 @@ use rules::Setting;
 use std::io;
 use std::io::Write;
 
-// `length`: that of the image. `busy`: there is a current job. `line`: the number of the line. `used`: how many of its
-// bytes are read.
+// `length`: that of the image. `job`: the current one. `line`: the number of the line. `used`: how many of its bytes are
+// read.
 #[derive(Clone, Copy)]
 pub struct Desk {
     pub length: usize,
     pub setting: Setting,
-    pub busy: bool,
-    pub job: Job,
+    pub job: Option<Job>,
     pub line: u64,
     pub used: usize,
     pub ended: bool,
 }
 
 pub fn new_desk() -> Desk {
-    let job = blocks::made::no_job();
     Desk {
         length: 0,
         setting: Setting {
@@ -27,8 +25,7 @@ pub fn new_desk() -> Desk {
             spt0: 0,
             spt1: 0,
         },
-        busy: false,
-        job,
+        job: None,
         line: 1,
         used: 0,
         ended: false,
@@ -49,14 +46,13 @@ pub fn with_setting(desk: Desk, setting: Setting) -> Desk {
 
 pub fn with_job(desk: Desk, job: Job) -> Desk {
     let mut next = desk;
-    next.busy = true;
-    next.job = job;
+    next.job = Some(job);
     next
 }
 
 pub fn without_job(desk: Desk) -> Desk {
     let mut next = desk;
-    next.busy = false;
+    next.job = None;
     next
 }
 
@@ -70,9 +66,7 @@ pub fn with_used(desk: Desk, used: usize) -> Desk {
 pub fn next_line(desk: Desk) -> Desk {
     let mut next = desk;
     next.used = 0;
-    if desk.line < u64::MAX {
-        next.line = desk.line + 1;
-    }
+    next.line = desk.line.saturating_add(1);
     next
 }
 

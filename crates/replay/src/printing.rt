@@ -1,5 +1,6 @@
 // Answers on standard output, each a line, but for the listing.
 use answer_parts::put_number;
+use codes::judgements::fault_code;
 use rules::{EntryNo, Fault, Refusal, Setting, SlotInfo, SlotNo};
 use std::io;
 use std::io::Write;
@@ -33,24 +34,20 @@ pub fn print_number<W: Write>(out: &mut W, word: &[u8], number: u64) -> io::Resu
 
 // The number of a refusal, and where no table copy stands the rule and the entry told for SPT0 and for SPT1.
 pub fn print_refused<W: Write>(out: &mut W, why: Refusal) -> io::Result<()> {
-    if (why.number == 50) | (why.number == 51) {
-        return print_faults(out, why);
-    }
-    print_number(out, b"refused", why.number as u64)
-}
-
-fn print_faults<W: Write>(out: &mut W, why: Refusal) -> io::Result<()> {
     let mut line = [0u8; 128];
     let mut end = text::put_bytes(&mut line, 0, b"refused");
-    end = put_number(&mut line, end, why.number as u64);
-    end = put_fault(&mut line, end, why.fault0);
-    end = put_fault(&mut line, end, why.fault1);
+    end = put_number(&mut line, end, why.number() as u64);
+    if let Refusal::NoMagic(faults) | Refusal::NoTable(faults) = why {
+        end = put_fault(&mut line, end, faults.fault0);
+        end = put_fault(&mut line, end, faults.fault1);
+    }
     write_line(out, &mut line, end)
 }
 
-fn put_fault(line: &mut [u8], at: usize, fault: Fault) -> usize {
-    let end = put_number(line, at, fault.rule as u64);
-    put_number(line, end, row_of(fault.entry))
+fn put_fault(line: &mut [u8], at: usize, fault: Option<Fault>) -> usize {
+    let code = fault_code(fault);
+    let end = put_number(line, at, code.rule as u64);
+    put_number(line, end, code.entry as u64)
 }
 
 // Slot numbers in their order.

@@ -2,8 +2,6 @@
 use super::desk::Desk;
 use super::printing;
 use fields::bounds::part_of;
-use infos::Known;
-use order_lists::Listed;
 use rules::{Setting, SlotNo};
 use script_lines::Question;
 use std::io;
@@ -46,10 +44,9 @@ fn tell_order_in<W: Write>(
     row: &mut [u32],
 ) -> io::Result<bool> {
     let n = places.min(row.len());
-    let listed = reading::order_list(image, setting, &mut row[0..n]);
-    match listed {
-        Listed::Refused(why) => printing::print_refused(out, why)?,
-        Listed::Count(count) => {
+    match reading::order_list(image, setting, &mut row[0..n]) {
+        Err(why) => printing::print_refused(out, why)?,
+        Ok(count) => {
             let end = count.min(row.len());
             printing::print_order(out, &row[0..end])?;
         }
@@ -68,10 +65,9 @@ fn tell_slot<W: Write>(
     image: &[u8],
     slot: SlotNo,
 ) -> io::Result<bool> {
-    let known = reading::slot_info(image, setting, slot);
-    match known {
-        Known::Refused(why) => printing::print_refused(out, why)?,
-        Known::Is(info) => {
+    match reading::slot_info(image, setting, slot) {
+        Err(why) => printing::print_refused(out, why)?,
+        Ok(info) => {
             let name = reading::slot_name(image, setting, slot);
             printing::print_slot(out, slot, info, name)?;
         }

@@ -2,7 +2,6 @@
 use super::desk::Desk;
 use super::{desk, printing};
 use commands::Command;
-use drafts::Outcome;
 use std::io;
 use std::io::Write;
 
@@ -16,15 +15,12 @@ pub fn start<W: Write>(
 ) -> io::Result<Desk> {
     let setting = desk.setting;
     let length = desk.length.min(room.len());
-    let begun = commands::start(&room[0..length], setting, command, name);
-    let outcome = begun.answer;
-    match outcome {
-        Outcome::Refused(why) => {
+    match commands::start(&room[0..length], setting, command, name) {
+        Err(why) => {
             printing::print_refused(out, why)?;
             Ok(desk::without_job(desk))
         }
-        Outcome::Started => {
-            let job = begun.job;
+        Ok(job) => {
             printing::print_number(out, b"job", job.remaining() as u64)?;
             Ok(desk::with_job(desk, job))
         }

@@ -17,19 +17,24 @@ pub fn carry_out<W: Write>(
     asked: Steps,
     line: &[u8],
 ) -> io::Result<Desk> {
-    if !desk.busy {
+    let Some(job) = desk.job else {
         return desk::error(desk, out);
-    }
+    };
     let length = desk.length.min(room.len());
     match asked {
-        Steps::Run(budget) => run(desk, out, &mut room[0..length], budget),
-        Steps::Cut(n, bytes) => cut(desk, out, &mut room[0..length], n, bytes),
-        Steps::Torn(n, ranges) => torn(desk, out, &mut room[0..length], n, ranges, line),
+        Steps::Run(budget) => run(desk, out, &mut room[0..length], job, budget),
+        Steps::Cut(n, bytes) => cut(desk, out, &mut room[0..length], job, n, bytes),
+        Steps::Torn(n, ranges) => torn(desk, out, &mut room[0..length], job, n, ranges, line),
     }
 }
 
-fn run<W: Write>(desk: Desk, out: &mut W, image: &mut [u8], budget: usize) -> io::Result<Desk> {
-    let mut job = desk.job;
+fn run<W: Write>(
+    desk: Desk,
+    out: &mut W,
+    image: &mut [u8],
+    mut job: Job,
+    budget: usize,
+) -> io::Result<Desk> {
     match job.run(image, budget) {
         Err(why) => printing::print_refused(out, why)?,
         Ok(n) => printing::print_number(out, b"ran", n as u64)?,
@@ -44,10 +49,10 @@ fn cut<W: Write>(
     desk: Desk,
     out: &mut W,
     image: &mut [u8],
+    mut job: Job,
     n: usize,
     bytes: usize,
 ) -> io::Result<Desk> {
-    let mut job = desk.job;
     if job.remaining() <= n {
         return desk::error(desk, out);
     }
@@ -63,11 +68,11 @@ fn torn<W: Write>(
     desk: Desk,
     out: &mut W,
     image: &mut [u8],
+    mut job: Job,
     n: usize,
     ranges: usize,
     line: &[u8],
 ) -> io::Result<Desk> {
-    let mut job = desk.job;
     if job.remaining() <= n {
         return desk::error(desk, out);
     }
