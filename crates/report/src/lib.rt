@@ -2,13 +2,12 @@
 #![tactic(auto)]
 
 ghost use Rattle.std.specs.Prelude.{◌≡◌, ◌≤◌, length, take};
-ghost use Rattle.views.specs.Inner.Located.{Located};
 ghost use Rattle.text.specs.Put.{Put};
 ghost use Rattle.dead_places.specs.DeadLines.{numbered};
 ghost use Rattle.report.specs.Listing.{listing, listing_for, parts, refusal, slot_line, info_text};
 
-use rules::{Setting, SlotNo, View};
-use views::opened;
+use rules::{Setting, SlotNo};
+use views::opened::{self, Opened};
 
 // What the listing program has fixed. More bytes than the limit are refused.
 const GRANULE: usize = 4096;
@@ -43,23 +42,22 @@ pub fn listing_for(image: &[u8], setting: Setting, out: &mut [u8]) -> usize
     ensures told { Put out.old 0 (listing_for setting image.now) out.new result }
     ensures inside { (result ≤ length out.new) × (result ≡ length (take result out.new)) }
 {
-    match views::view(image, setting) {
+    match opened::open(image, setting) {
         Err(why) => put_refusal(out, why.number()),
-        Ok(v) => put_parts(image, setting, v, out),
+        Ok(flash) => put_parts(&flash, out),
     }
 }
 
 // The boot order and the dead places, by where things are.
-fn put_parts(image: &[u8], setting: Setting, v: View, out: &mut [u8]) -> usize
-    requires { Located image.now v }
-    ensures { Put out.old 0 (parts setting image.now v) out.new result }
+fn put_parts(flash: &Opened<'_>, out: &mut [u8]) -> usize
+    ensures { Put out.old 0 (parts flash.now.setting flash.now.image.now flash.now.view) out.new result }
 {
-    let t = opened::table_of(image, v);
-    let p = opened::pointers_of(image, v);
+    let t = flash.table();
+    let p = flash.pointers();
     let mut row = [0; rules::MOST_ENTRIES];
     let count = boot_order::write_order(&t, &p, &mut row);
     let mut end = text::put_bytes(out, 0, b"order slot name start length\n");
-    end = put_lines(image, setting, &row[..count], out, end);
+    end = put_lines(flash.image, flash.setting, &row[..count], out, end);
     dead_places::put_dead(&t, &p, out, end)
 }
 
