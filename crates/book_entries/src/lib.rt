@@ -99,12 +99,12 @@ fn start_for(image: &[u8], setting: Setting, size: u64) -> u64
     requires { (size_right size ≡ true) × (size < 0x100000000) }
     ensures { result ≡ start_for setting image.now size }
 {
-    match views::view(image, setting) {
+    match opened::open(image, setting) {
         Err(_) => 0,
-        Ok(v) => {
-            let t = opened::table_of(image, v);
-            let p = opened::pointers_of(image, v);
-            rooms::lowest_start(t.entries(), &p, image.len() as u64, size)
+        Ok(flash) => {
+            let t = flash.table();
+            let p = flash.pointers();
+            rooms::lowest_start(t.entries(), &p, flash.image.len() as u64, size)
         }
     }
 }

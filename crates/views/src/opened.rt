@@ -24,14 +24,14 @@ impl<'a> Opened<'a> {
     pub fn table(&self) -> Table<'a>
         ensures { result ≡ block self.now.image.now self.now.view.table }
     {
-        table_of(self.image, self.view)
+        Table::new(fields::block_at(self.image, self.view.table))
     }
 
     // The pointer block read.
     pub fn pointers(&self) -> PointerBlock<'a>
         ensures { result ≡ block self.now.image.now self.now.view.pointers }
     {
-        pointers_of(self.image, self.view)
+        place_walks::pointer_block(fields::block_at(self.image, self.view.pointers))
     }
 }
 
@@ -46,18 +46,4 @@ pub fn open(image: &[u8], setting: Setting) -> Result<Opened<'_>, Refusal>
         setting,
         view,
     })
-}
-
-pub fn table_of(image: &[u8], v: View) -> Table<'_>
-    requires { Located image.now v }
-    ensures { result ≡ block image.now v.table }
-{
-    Table::new(fields::block_at(image, v.table))
-}
-
-pub fn pointers_of(image: &[u8], v: View) -> PointerBlock<'_>
-    requires { Located image.now v }
-    ensures { result ≡ block image.now v.pointers }
-{
-    place_walks::pointer_block(fields::block_at(image, v.pointers))
 }
