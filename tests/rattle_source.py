@@ -246,10 +246,15 @@ class Cursor:
 
 
 def types_in(cursor: Cursor, named: bool = False) -> dict[str, Type]:
-    """Types with commas between them, each after `pub` and, where named, its field's name; else by their numbers."""
+    """Types with commas between them, each after `pub` and, where named, its field's name; else by their numbers. A ghost
+    field takes no room, and is passed over."""
     found: dict[str, Type] = {}
     while cursor.text():
         visibility(cursor)
+        if named and cursor.text() == "ghost":
+            while cursor.text() and not cursor.taken(","):
+                cursor.group() if cursor.text() in CLOSING else cursor.take()
+            continue
         name = cursor.take() if named else str(len(found))
         if named:
             cursor.take(":")
