@@ -31,7 +31,7 @@ use Rattle.rules.proofs.Table.RowLengths.{length-with_new_row, length-without_ro
 use Rattle.rules.proofs.Pointers.PointerHeader.{places_fit}
 use Rattle.rules.proofs.Pointers.Filling.{length-pointers_of, length-filled}
 use Rattle.rules.proofs.Claim.Passed.{Passed, passed}
-use Rattle.views.specs.Inner.Located.{Located}
+use Rattle.views.specs.Located.{Located}
 use Rattle.views.proofs.Opening.{located}
 use Rattle.views.proofs.Seen.{seen, blocks_inside}
 use Rattle.jobs.specs.Jobs.{place_room}

@@ -14,7 +14,7 @@ use Rattle.rules.specs.declared.View.{View}
 use Rattle.rules.proofs.Table.Standing.{standing}
 use Rattle.rules.proofs.Table.SlotStarts.{length_fits, slot_begins_inside}
 use Rattle.rules.proofs.Claim.Viewing.{viewed, table_stands_there}
-use Rattle.views.specs.Inner.Located.{Located}
+use Rattle.views.specs.Located.{Located}
 
 module _ {img : List ℕ} {v : View} (l : Located img v) where
   -- addresses of a job's pair are stored in four bytes

@@ -1,7 +1,7 @@
 // The entries of a sub-partition table, 4,096 bytes lent as a slice, by entry number and by name.
 #![tactic(auto)]
 
-ghost use Rattle.std.specs.Prelude.{◌≡◌, ◌+◌, ◌*◌, ◌≤◌, ◌<◌, eqb, length, take, get_or};
+ghost use Rattle.std.specs.Prelude.{◌≡◌, ◌+◌, ◌*◌, ◌≤◌, ◌<◌, eqb, length, take, get_or, IfSome, is_some};
 ghost use Rattle.rules.specs.Bytes.{block_size, up_to_zero};
 ghost use Rattle.rules.specs.Lists.{all, any, keep};
 ghost use Rattle.rules.specs.Table.{entry_count, rows, entries, has_name, named, no_entry, name};
@@ -208,6 +208,17 @@ impl<'a> Entries<'a> {
         ensures { result ≡ any (has_name (up_to_zero wanted.now)) self.now }
     {
         self.find_named(wanted).is_some()
+    }
+
+    // The first entry that has the name.
+    pub fn named(&self, wanted: &[u8]) -> Option<Entry<'a>>
+        ensures is { IfSome result (λ e. e ≡ named (up_to_zero wanted.now) self.now) }
+        ensures there { is_some result ≡ any (has_name (up_to_zero wanted.now)) self.now }
+    {
+        match self.find_named(wanted) {
+            Some(e) => Some(self.get(e)),
+            None => None,
+        }
     }
 
     // The start of the first entry that has the name; 0 where none has.

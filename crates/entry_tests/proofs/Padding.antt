@@ -1,22 +1,24 @@
--- Names padded with zeros are the same if the fields that hold them are. Assumes
+-- Names padded with zeros are the same if the fields that hold them are, and those go by two words each. Assumes
 -- nothing.
 use mathlib.Core.Path.{◌≡◌, refl, sym, ap, ◌∙◌}
-use mathlib.Core.Bool.{Bool, true, not}
+use mathlib.Core.Bool.{Bool, true, not, ◌&&◌}
 use mathlib.Core.List.{List, [], ◌∷◌, ◌++◌}
-use Prim.Native.Nat.{ℕ, suc, ◌-◌}
+use Prim.Native.Nat.{ℕ, suc, ◌+◌, ◌*◌, ◌-◌, ◌<◌}
 use native.Mathlib.Omega.{arith}
 use lib.Dec.{eqb}
-use lib.ListN.{length, take, drop, replicate, length-drop}
+use lib.ListN.{length, take, drop, replicate, length-take, length-drop}
 use lib.Seq.{take_all}
 use Rattle.std.proofs.Common.{le_refl}
 use Rattle.std.proofs.Common.{nat_eq}
-use borrow.Author.Tests.{eq-eqb}
+use borrow.Author.Tests.{eq-eqb, ne_eqb, eqb-true, eqb-false}
 use Rattle.std.specs.List.{list_all}
 use Rattle.rules.specs.Lists.{same, all, first_clash}
-use Rattle.rules.specs.Bytes.{up_to_zero}
+use Rattle.rules.specs.Bytes.{Bytes, little_endian, field, up_to_zero}
 use Rattle.rules.specs.Table.{Entry, name, names_differ}
 use Rattle.rules.specs.Commands.{padded_name}
 use Rattle.rules.proofs.Lists.Tests.{by_cases, clash, and_true, both_true, same_true, same_of}
+use Rattle.rules.proofs.Lists.ByteLists.{bytes_take, bytes_drop}
+use Rattle.walks.proofs.Joined.{same_parts}
 use Rattle.entry_tests.specs.Inner.Padding.{is_zero, padded, fields_differ}
 
 -- ---- the zeros after a name
@@ -98,3 +100,43 @@ pub same_by_fields : (es : List Entry)
     → first_clash names_differ [] es ≡ first_clash fields_differ [] es
 unfolding all
 same_by_fields es = clash_agree padded names_differ fields_differ differ_by_fields [] es refl
+
+-- ---- two fields by their words
+
+byte_first : (x y a b : ℕ) → x < 256 → y < 256 → eqb (x + 256 * a) (y + 256 * b) ≡ eqb x y && eqb a b
+byte_first x y a b h k =
+    by_cases (eqb x y)
+    (λ p. let e = eqb-true x y p in
+    by_cases (eqb a b)
+    (λ q. let f = eqb-true a b q in rw (p, q) (eq-eqb (x + 256 * a) (y + 256 * b) (omega arith)))
+    (λ q. rw (p, q) (ne_eqb (x + 256 * a) (y + 256 * b) (λ g. eqb-false a b q (omega arith)))))
+    (λ p. rw p (ne_eqb (x + 256 * a) (y + 256 * b) (λ g. eqb-false x y p (omega arith))))
+
+same_numbers : (xs ys : List ℕ)
+    → Bytes xs
+    → Bytes ys
+    → length xs ≡ length ys
+    → eqb (little_endian xs) (little_endian ys) ≡ same xs ys
+unfolding little_endian same
+same_numbers [] [] hx hy l = refl
+same_numbers [] (y ∷ ys) hx hy l = absurd (omega arith)
+same_numbers (x ∷ xs) [] hx hy l = absurd (omega arith)
+same_numbers (x ∷ xs) (y ∷ ys) hx hy l =
+    byte_first x y (little_endian xs) (little_endian ys) (hx 0) (hy 0)
+    ∙ rw (same_numbers xs ys (λ i. hx (suc i)) (λ i. hy (suc i)) (omega arith))
+
+-- the last 8 of 16 bytes
+last_half : (x : List ℕ) → length x ≡ 16 → take 8 (drop 8 x) ≡ drop 8 x
+last_half x h = take_all 8 (drop 8 x) (simp length-drop (omega arith))
+
+pub same_by_words : (x y : List ℕ)
+    → Bytes x
+    → Bytes y
+    → length x ≡ 16
+    → length y ≡ 16
+    → same x y ≡ eqb (field 0 8 x) (field 0 8 y) && eqb (field 8 8 x) (field 8 8 y)
+unfolding field
+same_by_words x y bx by hx hy =
+    let front = same_numbers (take 8 x) (take 8 y) (bytes_take 8 x bx) (bytes_take 8 y by) (simp length-take (omega arith)) in
+    let back = same_numbers (drop 8 x) (drop 8 y) (bytes_drop 8 x bx) (bytes_drop 8 y by) (simp length-drop (omega arith)) in
+    rw (last_half x hx, last_half y hy, front, back) (same_parts 8 x y (hx ∙ sym hy))

@@ -1,6 +1,7 @@
 // What rules 3 and 4 ask of names.
-ghost use Rattle.std.specs.Prelude.{◌≡◌};
+ghost use Rattle.std.specs.Prelude.{◌≡◌, not, length};
 ghost use Rattle.std.specs.List.{list_all};
+ghost use Rattle.rules.specs.Lists.{same};
 ghost use Rattle.rules.specs.Table.{name_right, names_differ};
 ghost use Rattle.entry_tests.specs.Inner.Padding.{is_zero, padded, fields_differ};
 
@@ -38,9 +39,21 @@ fn is_zero(bytes: &[u8]) -> bool
 }
 
 // The name fields differ.
-#[tactic(auto, using(walks::proofs::Pointwise::same_pointwise), unfolding(crate::specs::Inner::Padding::fields_differ))]
+#[tactic(auto, unfolding(crate::specs::Inner::Padding::fields_differ))]
 pub fn fields_differ(d: &Entry<'_>, e: &Entry<'_>) -> bool
     ensures { result ≡ fields_differ d.now e.now }
 {
-    d.name() != e.name()
+    words_differ(d.name(), e.name())
+}
+
+// Two fields of 16 bytes differ: mostly their first eight bytes do. Compared byte by byte the standing of a full table took
+// half as long again.
+fn words_differ(x: &[u8], y: &[u8]) -> bool
+    requires { (length x.now ≡ 16) × (length y.now ≡ 16) }
+    ensures { result ≡ not (same x.now y.now) }
+{
+    if fields::number::<8>(x, 0) != fields::number::<8>(y, 0) {
+        return true;
+    }
+    fields::number::<8>(x, 8) != fields::number::<8>(y, 8)
 }

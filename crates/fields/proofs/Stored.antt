@@ -1,7 +1,7 @@
 -- Bytes put at an offset one after the other. Assumes nothing.
 use Rattle.std.proofs.Common.{◌≡◌, ℕ, ◌+◌, ◌≤◌, List, ◌++◌, length, take, drop, sym, ◌∙◌, append_assoc, arith}
 use Rattle.std.proofs.lemmas.List.{length-append, length-drop, length-take, length-take-le, take-append-drop}
-use lib.Seq.{take_at, drop_at, drop-drop}
+use lib.Seq.{paste, take_at, drop_at, drop-drop, take-length}
 use Rattle.rules.specs.Bytes.{bytes_of}
 use Rattle.rules.specs.Final.{put_at}
 use Rattle.rules.proofs.Lists.Words.{length-bytes_of}
@@ -9,6 +9,10 @@ use Rattle.rules.proofs.Lists.Words.{length-bytes_of}
 pub length-put_at : (at : ℕ) (bs img : List ℕ) → at + length bs ≤ length img → length (put_at at bs img) ≡ length img
 unfolding put_at
 length-put_at at bs img h = simp (length-append, length-take, length-drop) (omega arith)
+
+pub pasted_at : (img : List ℕ) (at : ℕ) (bs : List ℕ) → paste img at bs (length bs) ≡ put_at at bs img
+unfolding put_at
+pasted_at img at bs = rw (append_assoc, take-length)
 
 -- bytes put where bytes put before end
 put_at_then : (at : ℕ) (xs ys img : List ℕ)

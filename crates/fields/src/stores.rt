@@ -13,13 +13,15 @@ pub fn store<const N: usize>(out: &mut [u8], at: usize, v: u64)
     copy(out, at, &v.to_le_bytes()[..N]);
 }
 
-// The bytes given at an offset, by the definitions' word for that, which the clauses of its callers say too.
-#[tactic(auto, unfolding(rules::specs::Final::put_at))]
+// The bytes given at an offset, by the definitions' word for that, which the clauses of its callers say too. A loop, of
+// which a call of memcpy is made: std's copy_from_slice would want memmove of whoever links the functions for C.
 pub fn copy(out: &mut [u8], at: usize, given: &[u8])
     requires { at + length given.now ≤ length out.old }
     ensures { out.new ≡ put_at at given.now out.old }
 {
-    out[at..at + given.len()].copy_from_slice(given);
+    for i in 0..given.len() {
+        out[at + i] = given[i];
+    }
 }
 
 // A block at an offset, in halves: the instruction by which the C library copies more takes some processors twenty times

@@ -11,7 +11,7 @@ pub fn entry_total(image: &[u8], setting: Setting) -> Result<usize, Refusal>
     ensures { result ≡ entry_total setting image.now }
 {
     let flash = opened::open(image, setting)?;
-    Ok(entries::entry_count(flash.table().bytes()))
+    Ok(entries::entry_count(fields::block_at(flash.image, flash.view.table)))
 }
 
 // Refusals 1, 2, 3, 50, 51, 5 and 92, or the number, start, length and flags of an entry.
@@ -20,7 +20,7 @@ pub fn entry_info(image: &[u8], setting: Setting, entry: EntryNo) -> Result<Slot
     ensures { result ≡ entry_info setting image.now entry.0 }
 {
     let flash = opened::open(image, setting)?;
-    infos::entry::info_in(flash.table().entries(), entry)
+    infos::entry::info_in(&flash.entries(), entry)
 }
 
 // The name of an entry up to its zero, as a part of the image; an empty part when refused.
@@ -29,7 +29,7 @@ pub fn entry_name(image: &[u8], setting: Setting, entry: EntryNo) -> &[u8]
     ensures { result.now ≡ entry_name setting image.now entry.0 }
 {
     match opened::open(image, setting) {
-        Ok(flash) => infos::entry::name_in(flash.table().entries(), entry),
-        Err(_) => &[],
+        Ok(flash) => infos::entry::name_in(&flash.entries(), entry),
+        Err(_) => &image[..0],
     }
 }

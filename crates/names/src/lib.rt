@@ -49,26 +49,34 @@ fn up_to_zero(s: &[u8]) -> &[u8]
     &s[..name_length(s)]
 }
 
-// The two names are equal up to their zero bytes.
-#[tactic(auto, using(walks::proofs::Pointwise::same_pointwise))]
+// The two names are equal up to their zero bytes. Byte by byte, up to the first that differs: most names differ early.
 pub fn same_name(a: &[u8], b: &[u8]) -> bool
     ensures { result ≡ same (up_to_zero a.now) (up_to_zero b.now) }
 {
-    up_to_zero(a) == up_to_zero(b)
+    for i in 0..a.len() {
+        let x = a[i];
+        if x != byte_or_zero(b, i) {
+            return false;
+        }
+        if x == 0 {
+            return true;
+        }
+    }
+    byte_or_zero(b, a.len()) == 0
 }
 
 // The two names begin with the same byte, or are both empty. A search asks this first: most names differ here.
 pub fn begin_alike(a: &[u8], b: &[u8]) -> bool
     ensures { result ≡ eqb (get_or a.now 0 0) (get_or b.now 0 0) }
 {
-    first_or_zero(a) == first_or_zero(b)
+    byte_or_zero(a, 0) == byte_or_zero(b, 0)
 }
 
-// The first byte, or 0 where there is none: an empty name ends there too.
-fn first_or_zero(s: &[u8]) -> u8
-    ensures { result ≡ get_or s.now 0 0 }
+// The byte at an index, or 0 past the end, where a name ends too.
+fn byte_or_zero(s: &[u8], i: usize) -> u8
+    ensures { result ≡ get_or s.now i 0 }
 {
-    s.first().copied().unwrap_or(0)
+    s.get(i).copied().unwrap_or(0)
 }
 
 // ---- the six

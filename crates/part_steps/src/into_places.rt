@@ -63,7 +63,7 @@ fn do_place(image: &mut [u8], at: usize, value: &[u8; 8], window: Window) -> Win
         ≡ steps g (chosen window (programs at value.now)) image.old }
 {
     if (window.from == 0) & (8 <= window.n) {
-        device::program(image, at, value);
+        device::program_eight(image, at, value);
         return window.beyond(8);
     }
     programs::do_range(image, at, value, window)

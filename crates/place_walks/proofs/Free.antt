@@ -130,3 +130,11 @@ held_further p v k other within = member_goes v (place_turn p k within) other
 pub held_nowhere : (p : List ℕ) (v k : ℕ) → all_ones v ≡ false → free_from p ≤ k
     → member v (drop k (places p)) ≡ false
 held_nowhere p v k used past = not_held p (free_from p) k v (free_places p) past used
+
+-- and one of four places
+pub four_without : (p : List ℕ) (v k : ℕ) → one_of_four (λ i. eqb (place_value p i) v) k ≡ false → k + 4 ≤ place_count p
+    → member v (drop k (places p)) ≡ member v (drop (k + 4) (places p))
+four_without p v k none within =
+    four_turns (λ i. member v (drop i (places p))) (λ i. eqb (place_value p i) v) (place_count p)
+    (λ i h other. member_goes v (place_turn p i h) (λ same. eqb-false (place_value p i) v other (sym same)))
+    k within none

@@ -2,8 +2,8 @@
 // adds to the boot order.
 #![tactic(auto)]
 
-ghost use Rattle.std.specs.Prelude.{◌≡◌, true, false, not, ◌+◌, ◌≤◌, ◌<◌, drop};
-ghost use Rattle.rules.specs.Lists.{all};
+ghost use Rattle.std.specs.Prelude.{◌≡◌, true, false, not, ◌+◌, ◌≤◌, ◌<◌, eqb, drop};
+ghost use Rattle.rules.specs.Lists.{all, member};
 ghost use Rattle.rules.specs.Table.{starts};
 ghost use Rattle.rules.specs.Pointers.{place_count, places, all_ones};
 ghost use Rattle.walks.specs.Four.{one_of_four};
@@ -77,12 +77,41 @@ pub fn occurs_above(p: &PointerBlock<'_>, place: PlaceNo, v: u64) -> bool
     ensures { result ≡ occurs_above p.now place.0 v }
 {
     let free = p.free().0;
-    for k in place.0 + 1..free {
+    for k in not_held_to(p, place, v).0..free {
         if v == p.value(PlaceNo(k)) {
             return true;
         }
     }
     false
+}
+
+// The place from which on to look for the value: none between this one and that has it. Four at a time: one by one, an
+// order list of many places took half as long again.
+#[tactic(auto, using(crate::proofs::Free::four_without))]
+fn not_held_to(p: &PointerBlock<'_>, place: PlaceNo, v: u64) -> PlaceNo
+    requires { place.0 < place_count p.now }
+    ensures { occurs_above p.now place.0 v ≡ member v (drop result.0 (places p.now)) }
+{
+    let free = p.free().0;
+    let mut to = place.0 + 1;
+    while to + 4 <= free && !held_in_four(p, PlaceNo(to), v) {
+        to += 4;
+    }
+    PlaceNo(to)
+}
+
+// One of four places has the value.
+#[tactic(auto, unfolding(walks::specs::Four::one_of_four))]
+fn held_in_four(p: &PointerBlock<'_>, place: PlaceNo, v: u64) -> bool
+    requires { place.0 + 4 ≤ place_count p.now }
+    ensures { result ≡ one_of_four (λ k. eqb (place_value p.now k) v) place.0 }
+{
+    // So few places that the sums fit.
+    let _ = p.count();
+    (p.value(place) == v)
+        | (p.value(PlaceNo(place.0 + 1)) == v)
+        | (p.value(PlaceNo(place.0 + 2)) == v)
+        | (p.value(PlaceNo(place.0 + 3)) == v)
 }
 
 // What a place adds to the boot order: its slot, if it is live and no higher place has the same value.

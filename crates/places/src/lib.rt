@@ -27,7 +27,8 @@ const LAST_OFFSET: u64 = BLOCK_SIZE - POINTER_SIZE;
 
 const POINTER_SIZE: u64 = PLACE_LENGTH as u64;
 
-const PLACE_LENGTH: usize = 8;
+// The bytes of a place.
+pub const PLACE_LENGTH: usize = 8;
 
 // The value of an erased place.
 pub const ALL_ONES: u64 = 0xFFFF_FFFF_FFFF_FFFF;

@@ -46,7 +46,7 @@ pub fn slot_info(image: &[u8], setting: Setting, slot: SlotNo) -> Result<SlotInf
     ensures { result ≡ slot_info setting image.now slot.0 }
 {
     let flash = opened::open(image, setting)?;
-    infos::slot::info_in(flash.table().entries(), slot)
+    infos::slot::info_in(&flash.entries(), slot)
 }
 
 // The name of a slot up to its zero, as a part of the image; an empty part when refused.
@@ -55,7 +55,7 @@ pub fn slot_name(image: &[u8], setting: Setting, slot: SlotNo) -> &[u8]
     ensures { result.now ≡ slot_name setting image.now slot.0 }
 {
     match opened::open(image, setting) {
-        Ok(flash) => infos::slot::name_in(flash.table().entries(), slot),
+        Ok(flash) => infos::slot::name_in(&flash.entries(), slot),
         Err(_) => &image[..0],
     }
 }

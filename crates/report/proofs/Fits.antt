@@ -26,7 +26,7 @@ use Rattle.rules.proofs.Pointers.PointerHeader.{places_fit}
 use Rattle.walks.specs.Entries.{most_entries}
 use Rattle.places.proofs.Values.{length_places}
 use Rattle.boot_order.proofs.BootOrder.{order_fits}
-use Rattle.views.specs.Inner.Located.{Located}
+use Rattle.views.specs.Located.{Located}
 use Rattle.views.proofs.Opening.{located}
 use Rattle.text.specs.Put.{Put}
 use Rattle.text.proofs.Puts.{put_whole}

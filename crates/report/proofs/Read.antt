@@ -8,7 +8,7 @@ use Rattle.rules.specs.Bytes.{block}
 use Rattle.rules.specs.Copies.{order_by, boot_order}
 use Rattle.rules.specs.declared.View.{View}
 use Rattle.walks.specs.Entries.{most_entries}
-use Rattle.views.specs.Inner.Located.{Located}
+use Rattle.views.specs.Located.{Located}
 use Rattle.report.proofs.Fits.{order_few}
 
 module _ {img : List ℕ} {v : View} (l : Located img v) {t p : List ℕ} (is_table : t ≡ block img v.table)

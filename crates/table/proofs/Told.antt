@@ -1,7 +1,7 @@
 -- The fault of a table copy: one law for each exit of the code that looks for the rule. Assumes nothing.
-use Rattle.std.proofs.Common.{◌≡◌, refl, sym, ◌∙◌, subst, Bool, true, false, Option, Some, None, List, [], ℕ, ◌<◌, arith, length, eqb}
-use borrow.Author.Tests.{eq-eqb, ne_eqb}
-use Rattle.rules.specs.Lists.{pairwise, first_failing, first_clash}
+use Rattle.std.proofs.Common.{◌≡◌, refl, sym, ◌∙◌, subst, Bool, true, false, ◌&&◌, Option, Some, None, List, [], ◌∷◌, ℕ, ◌<◌, arith, length, eqb}
+use borrow.Author.Tests.{eq-eqb, ne_eqb, eqb-true}
+use Rattle.rules.specs.Lists.{all, pairwise, first_failing, first_clash}
 use Rattle.rules.specs.Answers.{no_entry_number, broken, no_fault}
 use Rattle.rules.specs.declared.EntryNo.{EntryNo}
 use Rattle.rules.specs.declared.Fault.{Fault}
@@ -10,9 +10,11 @@ use Rattle.rules.specs.declared.TableRule.{TableRule}
 use Rattle.rules.specs.declared.TableRule.TheVariants.{HeaderRight, CountRight, NameRight, NamesDiffer, RangeAligned, RangeInside, RangesApart, SixNamed, BootInfoAtZero, TablesAsTold, BlocksOnGranules}
 use Rattle.rules.specs.Table.{Entry, header_right, count_right, entries, fault, entries_fault, broken_unless}
 use Rattle.rules.specs.Table.{name_right, names_differ, range_aligned, range_inside, ranges_apart}
-use Rattle.rules.specs.Table.{six_named}
+use Rattle.rules.specs.Table.{named, spt0_name, spt1_name, cpb0_name, cpb1_name, block_names, on_granules}
+use Rattle.rules.specs.Table.{six_named, boot_info_at_0, tables_as_told, blocks_on_granules}
 use Rattle.rules.specs.Table.{boot_info_right, table_as_told, block_on_granules}
 use Rattle.rules.proofs.Lists.FirstBroken.{none_fails, none_clashes}
+use Rattle.walks.proofs.Joined.{and_assoc, and_with_true}
 use Rattle.entries.specs.Tests.{Found}
 use Rattle.table.specs.Inner.Six.{six_fault}
 use Rattle.table.proofs.Named.{rule_9, rule_10, rule_11}
@@ -98,6 +100,32 @@ module _ (s : Setting) (len : ℕ) (es : List Entry) where
                       fault_of_six = goes f3 (none_fails name_right es) _ _ n3 ∙ goes f4 (none_clashes names_differ es) _ _ n4 ∙ goes f5 (none_fails range_aligned es) _ _ n5 ∙ goes f6 (none_fails (range_inside len) es) _ _ n6 ∙ goes f7 (none_clashes ranges_apart es) _ _ n7
 
 -- ---- rules 8 to 11
+
+-- where all entries keep a rule, none is the first that does not
+none_found : (p : Entry → Bool) (es : List Entry) → all p es ≡ true → Found es (first_failing p es) None
+none_found p es h = record { some = tt; none = eqb-true (first_failing p es) (length es) (none_fails p es ∙ h) }
+
+-- and all keep it if the entries of the fixed names do
+module _ (s : Setting) (es : List Entry) (differ : pairwise names_differ es ≡ true) (rule8 : six_named es ≡ true) where
+  pub none_9 : boot_info_at_0 es ≡ true → Found es (first_failing boot_info_right es) None
+  none_9 h = none_found boot_info_right es (rule_9 s es differ rule8 ∙ h)
+
+  pub none_10 : tables_as_told s es ≡ true → Found es (first_failing (table_as_told s) es) None
+  none_10 h = none_found (table_as_told s) es (rule_10 s es differ rule8 ∙ h)
+
+  pub none_11 : on_granules s.granule (named spt0_name es)
+      && on_granules s.granule (named spt1_name es)
+      && on_granules s.granule (named cpb0_name es)
+      && on_granules s.granule (named cpb1_name es)
+      ≡ true
+      → Found es (first_failing (block_on_granules s) es) None
+  unfolding blocks_on_granules all
+  none_11 h =
+      none_found (block_on_granules s) es
+      (rule_11 s es differ rule8 ∙ all_four (λ n. on_granules s.granule (named n es)) ∙ h)
+    where
+      all_four : (f : List ℕ → Bool) → all f block_names ≡ f spt0_name && f spt1_name && f cpb0_name && f cpb1_name
+      all_four f = simp (and_assoc, and_with_true)
 
 module _ (s : Setting) (es : List Entry) where
   pub fault_8 : six_named es ≡ false → six_fault s es ≡ broken SixNamed no_entry_number

@@ -17,7 +17,7 @@ use views::opened::Opened;
 
 // Refusals 6, 9, 10, 40 and 41: both pairs agree, the name may be given and no entry has it, the length is right, and a
 // row is left.
-#[tactic(auto, unfolding(drafts::specs::Inner::Asked::new_asked, rules::specs::Answers::unless))]
+#[tactic(auto, unfolding(drafts::specs::Inner::Asked::new_asked, rules::specs::Answers::unless), using(crate::proofs::NewAsked::count_of_entries))]
 fn ask_new(flash: &Opened<'_>, name: &[u8], size: u64) -> Result<(), Refusal>
     ensures { result ≡ new_asked flash.now.image.now flash.now.view name.now size }
 {
@@ -27,14 +27,14 @@ fn ask_new(flash: &Opened<'_>, name: &[u8], size: u64) -> Result<(), Refusal>
     if !tables::name_allowed(name) {
         return Err(Refusal::NameNotAllowed);
     }
-    let t = flash.table();
-    if !is_new(t.entries(), name) {
+    let entries = flash.entries();
+    if !is_new(&entries, name) {
         return Err(Refusal::NameTaken);
     }
     if !rooms::size_right(size) {
         return Err(Refusal::LengthWrong);
     }
-    if rules::MOST_ENTRIES <= entries::entry_count(t.bytes()) {
+    if rules::MOST_ENTRIES <= entries.len() {
         return Err(Refusal::NoRowLeft);
     }
     Ok(())
@@ -64,10 +64,9 @@ pub fn create_by(
 {
     let long = size as u64;
     ask_new(flash, name, long)?;
-    let t = flash.table();
     let p = flash.pointers();
     let len = flash.image.len() as u64;
-    let start = rooms::lowest_start(t.entries(), &p, len, long);
+    let start = rooms::lowest_start(&flash.entries(), &p, len, long);
     if len <= start {
         return Err(Refusal::NoStart);
     }
@@ -77,6 +76,7 @@ pub fn create_by(
         flash.view.spt0,
         flash.view.spt1,
     );
-    table_rows::put_new_row(t.bytes(), name, start, long, room);
+    let t = fields::block_at(flash.image, flash.view.table);
+    table_rows::put_new_row(t, name, start, long, room);
     Ok(Draft::Rewritten(made::pair_plan(to)))
 }

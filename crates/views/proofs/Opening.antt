@@ -18,7 +18,7 @@ use Rattle.rules.proofs.Claim.Invariant.{granule_holds_block}
 use Rattle.rules.proofs.Table.SlotStarts.{length_fits}
 use Rattle.walks.specs.Entries.{HasEntries}
 use Rattle.places.specs.Inner.StandingPointers.{StandingPointers}
-use Rattle.views.specs.Inner.Located.{Located}
+use Rattle.views.specs.Located.{Located}
 use Rattle.views.proofs.Seen.{seen, blocks_inside, table_followed, pointers_inside, pointers_read_stand}
 
 pub located : (s : Setting) (img : List ℕ) (v : View) → view s img ≡ given v → Located img v

@@ -7,7 +7,7 @@ mod copies_read; // which copy of the table and of the pointer block is read, an
 ghost use Rattle.std.specs.Prelude.{◌≡◌, IfOk};
 ghost use Rattle.rules.specs.Copies.{view};
 ghost use Rattle.rules.specs.Readers.{table_faults};
-ghost use Rattle.views.specs.Inner.Located.{Located};
+ghost use Rattle.views.specs.Located.{Located};
 
 use rules::{Refusal, Setting, TableFaults, View};
 

@@ -3,8 +3,10 @@ ghost use Rattle.std.specs.Prelude.{◌≡◌, IfOk, IfErr};
 ghost use Rattle.rules.specs.Bytes.{block};
 ghost use Rattle.rules.specs.Answers.{given, refused};
 ghost use Rattle.rules.specs.Copies.{view as view_of};
-ghost use Rattle.views.specs.Inner.Located.{Located};
+ghost use Rattle.rules.specs.Table.{entries};
+ghost use Rattle.views.specs.Located.{Located};
 
+use entries::Entries;
 use places::PointerBlock;
 use rules::{Refusal, Setting, View};
 use slots::Table;
@@ -25,6 +27,13 @@ impl<'a> Opened<'a> {
         ensures { result ≡ block self.now.image.now self.now.view.table }
     {
         Table::new(fields::block_at(self.image, self.view.table))
+    }
+
+    // Its entries, for who asks no slot's number: those of a table are counted for that.
+    pub fn entries(&self) -> Entries<'a>
+        ensures { result ≡ entries (block self.now.image.now self.now.view.table) }
+    {
+        Entries::counted(fields::block_at(self.image, self.view.table))
     }
 
     // The pointer block read.

@@ -158,12 +158,6 @@ some_rule s len t f = there (fault s len t) (λ z. clash (table_stands s len t) 
 refused_inj : {A : Type 0} (x y : Refusal) → ◌≡◌ {A = Answer A} (refused x) (refused y) → x ≡ y
 refused_inj x y h = cc
 
--- of a refusal 50 or 51: a rule of SPT0 and one of SPT1
-abbrev pub BothTold : Refusal → Type 0
-BothTold why = (faults : TableFaults)
-    → (why ≡ NoMagic faults) ⊎ (why ≡ NoTable faults)
-    → (is_some faults.fault0 ≡ true) × (is_some faults.fault1 ≡ true)
-
 same_magic : {x y : TableFaults} → NoMagic x ≡ NoMagic y → x ≡ y
 same_magic h = cc
 
@@ -173,10 +167,11 @@ same_table h = cc
 not_both : {x y : TableFaults} → NoMagic x ≡ NoTable y → ⊥
 not_both h = let z : ◌≡◌ {A = ℕ} 50 51 = ap number_of h in omega arith
 
--- a refusal of another number tells of none
-low_told : (why : Refusal) → number_of why < 50 → BothTold why
-low_told why l faults (inl e) = absurd (omega (arith, l, ap number_of e))
-low_told why l faults (inr e) = absurd (omega (arith, l, ap number_of e))
+-- of a refusal: it tells a rule of SPT0 and one of SPT1
+abbrev pub BothTold : Refusal → Type 0
+BothTold why = (faults : TableFaults)
+    × (((why ≡ NoMagic faults) ⊎ (why ≡ NoTable faults))
+    × ((is_some faults.fault0 ≡ true) × (is_some faults.fault1 ≡ true)))
 
 module _ (s : Setting) (img : List ℕ) where
   faults_told : table_stands s (length img) (block img s.spt0) ≡ false
@@ -189,10 +184,8 @@ module _ (s : Setting) (img : List ℕ) where
       told = (some_rule s (length img) (block img s.spt0) f0, some_rule s (length img) (block img s.spt1) f1)
 
       by_magic : (t : Bool) → BothTold (cond t (NoTable (both_faults s img)) (NoMagic (both_faults s img)))
-      by_magic true faults (inl e) = absurd (not_both (sym e))
-      by_magic true faults (inr e) = rw (← same_table e) told
-      by_magic false faults (inl e) = rw (← same_magic e) told
-      by_magic false faults (inr e) = absurd (not_both e)
+      by_magic true = (both_faults s img, (inr refl, told))
+      by_magic false = (both_faults s img, (inl refl, told))
 
   rule_told : (why : Refusal) → table_read s img ≡ refused why → BothTold why
   unfolding table_read copy_read
@@ -203,45 +196,65 @@ module _ (s : Setting) (img : List ℕ) where
       (λ t. absurd (refused_given why s.spt1 (sym (rw (f0, t) at h))))
       (λ f1. rw (← refused_inj _ _ (rw (f0, f1) at h)) (faults_told f0 f1)))
 
-  -- what may be refused, asked in order
-  passed : {A : Type 0} (n : Refusal) (t : Bool) (a : Answer A) (why : Refusal)
-      → number_of n < 50
-      → (a ≡ refused why → BothTold why)
-      → unless n t a ≡ refused why
-      → BothTold why
-  unfolding unless
-  passed n true a why l f h = f h
-  passed n false a why l f h = rw (← refused_inj n why h) (low_told n l)
+-- a refusal of a higher number comes after the test
+passed : {A : Type 0} (n : Refusal) (t : Bool) (a : Answer A) (why : Refusal)
+    → number_of n < number_of why
+    → unless n t a ≡ refused why
+    → a ≡ refused why
+unfolding unless
+passed n true a why l h = h
+passed n false a why l h = absurd (omega (arith, l, ap number_of (refused_inj n why h)))
 
-  pointers_told : (t : List ℕ) (why : Refusal) → pointers_read img t ≡ refused why → BothTold why
-  unfolding pointers_read copy_read
-  pointers_told t why h =
-      by_cases (pointers_stand (block img (cpb0_of t)))
-      (λ u. absurd (refused_given why (cpb0_of t) (sym (rw u at h))))
-      (λ f. by_cases (pointers_stand (block img (cpb1_of t)))
-      (λ u. absurd (refused_given why (cpb1_of t) (sym (rw (f, u) at h))))
-      (λ g. rw (← refused_inj NoPointers why (rw (f, g) at h)) (low_told NoPointers (omega arith))))
+module _ (s : Setting) (img : List ℕ) (why : Refusal) where
+  module _ (high : 50 ≤ number_of why) where
+    not_5 : (t : List ℕ) → pointers_read img t ≡ refused why → ⊥
+    unfolding pointers_read copy_read
+    not_5 t h =
+        by_cases (pointers_stand (block img (cpb0_of t)))
+        (λ u. refused_given why (cpb0_of t) (sym (rw u at h)))
+        (λ f. by_cases (pointers_stand (block img (cpb1_of t)))
+        (λ u. refused_given why (cpb1_of t) (sym (rw (f, u) at h)))
+        (λ g. omega (arith, high, ap number_of (refused_inj NoPointers why (rw (f, g) at h)))))
 
-  through_told : (at : ℕ) (why : Refusal) (p : Answer ℕ)
-      → pointers_read img (block img at) ≡ p
-      → view_through s img at ≡ refused why
-      → BothTold why
-  unfolding view_through
-  through_told at why (refused w) e h = pointers_told (block img at) why (e ∙ ap refused (refused_inj w why (rw e at h)))
-  through_told at why (given x) e h = absurd (refused_given why _ (sym (rw e at h)))
+    not_after_table : (at : ℕ) (p : Answer ℕ)
+        → pointers_read img (block img at) ≡ p
+        → view_through s img at ≡ refused why
+        → ⊥
+    unfolding view_through
+    not_after_table at (refused w) e h = not_5 (block img at) (e ∙ ap refused (refused_inj w why (rw e at h)))
+    not_after_table at (given x) e h = refused_given why _ (sym (rw e at h))
 
-  by_table : (t : Answer ℕ) (why : Refusal)
-      → table_read s img ≡ t
-      → table_read s img >>= view_through s img ≡ refused why
-      → BothTold why
-  by_table (refused w) why e h = rule_told why (e ∙ ap refused (refused_inj w why (rw e at h)))
-  by_table (given at) why e h = through_told at why (pointers_read img (block img at)) refl (rw e at h)
+    by_table : (t : Answer ℕ)
+        → table_read s img ≡ t
+        → table_read s img >>= view_through s img ≡ refused why
+        → BothTold why
+    by_table (refused w) e h = rule_told s img why (e ∙ ap refused (refused_inj w why (rw e at h)))
+    by_table (given at) e h = absurd (not_after_table at (pointers_read img (block img at)) refl (rw e at h))
 
-  -- the theorem: of every flash that is refused 50 or 51
-  pub rules_told : (why : Refusal) → view s img ≡ refused why → BothTold why
-  unfolding view
-  rules_told why h =
-      passed BadLength _ _ why (omega arith)
-      (passed BadGranule _ _ why (omega arith)
-      (passed BadAddresses _ _ why (omega arith) (by_table (table_read s img) why refl)))
-      h
+    -- the theorem: a flash that is refused with a number from 50 on is refused 50 or 51, and a rule is told of both copies
+    pub rules_told : view s img ≡ refused why → BothTold why
+    unfolding view
+    rules_told h =
+        let h = passed BadLength _ _ why (omega (arith, high)) h in
+        let h = passed BadGranule _ _ why (omega (arith, high)) h in
+        let h = passed BadAddresses _ _ why (omega (arith, high)) h in
+        by_table (table_read s img) refl h
+
+  -- so the faults of 50, and those of 51, tell a rule of both copies
+  pub faults_are_told : (faults : TableFaults)
+      → (why ≡ NoMagic faults) ⊎ (why ≡ NoTable faults)
+      → view s img ≡ refused why
+      → (is_some faults.fault0 ≡ true) × (is_some faults.fault1 ≡ true)
+  faults_are_told faults e h = these e (rules_told (high e) h)
+    where
+      high : (why ≡ NoMagic faults) ⊎ (why ≡ NoTable faults) → 50 ≤ number_of why
+      high (inl e) = omega (arith, ap number_of e)
+      high (inr e) = omega (arith, ap number_of e)
+
+      these : (why ≡ NoMagic faults) ⊎ (why ≡ NoTable faults)
+          → BothTold why
+          → (is_some faults.fault0 ≡ true) × (is_some faults.fault1 ≡ true)
+      these (inl e) (told, (inl f, both)) = rw (same_magic (sym e ∙ f)) both
+      these (inl e) (told, (inr f, both)) = absurd (not_both (sym e ∙ f))
+      these (inr e) (told, (inl f, both)) = absurd (not_both (sym f ∙ e))
+      these (inr e) (told, (inr f, both)) = rw (same_table (sym e ∙ f)) both

@@ -1,31 +1,25 @@
 -- One law for each exit, from what the searches before it found.
-use Rattle.std.proofs.Common.{rules, sym, ap, not, ◌∙◌}
-use Rattle.rules.specs.Table.{boot_info_right, table_as_told, block_on_granules}
-use Rattle.walks.proofs.Joined.{failed, passed}
+use Rattle.std.proofs.Common.{sym, ◌∙◌}
 use Rattle.table.proofs.Told.{fault_8, fault_9, fault_10, fault_11, none_broken}
 use Rattle.table.proofs.faults.six_fault.Goals as goal
 
-pub returns-then-not-six_are_named : goal.returns-then-not-six_are_named
-returns-then-not-six_are_named c =
-    c.broken_at.ensures ∙ sym (fault_8 c.args.setting c.args.entries.now (failed c.six_are_named.ensures (ap not c.if-not-six_are_named.true)))
+pub returns-in-None : goal.returns-in-None
+returns-in-None c = c.broken_at.ensures ∙ sym (fault_8 c.args.setting c.args.entries.now (sym c.in-None.ensures.there))
 
-pub returns-in-Some : goal.returns-in-Some
-returns-in-Some c =
-    c.broken_at-in-Some.ensures
-    ∙ sym (fault_9 c.args.setting c.args.entries.now c.requires.names (passed c.six_are_named.ensures (ap not c.if-not-six_are_named.false)) (c.first_failing.ensures boot_info_right (search rules)) c.in-Some.is)
+pub returns-in-Some-boot_info_fault : goal.returns-in-Some-boot_info_fault
+returns-in-Some-boot_info_fault c =
+    c.broken_at-in-Some-boot_info_fault.ensures
+    ∙ sym (fault_9 c.args.setting c.args.entries.now c.requires.names (sym c.in-Some.ensures.there) c.boot_info_fault.ensures c.in-Some-boot_info_fault.is)
 
-pub returns-in-Some-first_failing : goal.returns-in-Some-first_failing
-unfolding table_as_told block_on_granules
-returns-in-Some-first_failing c =
-    c.broken_at-in-Some-first_failing.ensures
-    ∙ sym (fault_10 c.args.setting c.args.entries.now c.requires.names (passed c.six_are_named.ensures (ap not c.if-not-six_are_named.false)) (c.first_failing.ensures boot_info_right (search rules)) c.in_default.not-Some (c.first_failing-2.ensures (table_as_told c.args.setting) (search rules)) c.in-Some-first_failing.is)
+pub returns-in-Some-tables_fault : goal.returns-in-Some-tables_fault
+returns-in-Some-tables_fault c =
+    c.broken_at-in-Some-tables_fault.ensures
+    ∙ sym (fault_10 c.args.setting c.args.entries.now c.requires.names (sym c.in-Some.ensures.there) c.boot_info_fault.ensures c.in_default.not-Some c.tables_fault.ensures c.in-Some-tables_fault.is)
 
-pub returns-in-Some-first_failing-2 : goal.returns-in-Some-first_failing-2
-unfolding table_as_told block_on_granules
-returns-in-Some-first_failing-2 c =
-    c.broken_at-in-Some-first_failing-2.ensures
-    ∙ sym (fault_11 c.args.setting c.args.entries.now c.requires.names (passed c.six_are_named.ensures (ap not c.if-not-six_are_named.false)) (c.first_failing.ensures boot_info_right (search rules)) c.in_default.not-Some (c.first_failing-2.ensures (table_as_told c.args.setting) (search rules)) c.in_default-first_failing.not-Some (c.first_failing-3.ensures (block_on_granules c.args.setting) (search rules)) c.in-Some-first_failing-2.is)
+pub returns-in-Some-blocks_fault : goal.returns-in-Some-blocks_fault
+returns-in-Some-blocks_fault c =
+    c.broken_at-in-Some-blocks_fault.ensures
+    ∙ sym (fault_11 c.args.setting c.args.entries.now c.requires.names (sym c.in-Some.ensures.there) c.boot_info_fault.ensures c.in_default.not-Some c.tables_fault.ensures c.in_default-tables_fault.not-Some c.blocks_fault.ensures c.in-Some-blocks_fault.is)
 
 pub returns : goal.returns
-unfolding table_as_told block_on_granules
-returns c = sym (none_broken c.args.setting c.args.entries.now c.requires.names (passed c.six_are_named.ensures (ap not c.if-not-six_are_named.false)) (c.first_failing.ensures boot_info_right (search rules)) c.in_default.not-Some (c.first_failing-2.ensures (table_as_told c.args.setting) (search rules)) c.in_default-first_failing.not-Some (c.first_failing-3.ensures (block_on_granules c.args.setting) (search rules)) c.in_default-first_failing-2.not-Some)
+returns c = sym (none_broken c.args.setting c.args.entries.now c.requires.names (sym c.in-Some.ensures.there) c.boot_info_fault.ensures c.in_default.not-Some c.tables_fault.ensures c.in_default-tables_fault.not-Some c.blocks_fault.ensures c.in_default-blocks_fault.not-Some)

@@ -14,7 +14,7 @@ pub lowest_start-start-requires : goal.lowest_start-start-requires
 lowest_start-start-requires c =
     let a = c.args in
     let asked : new_asked a.flash.now.image.now a.flash.now.view a.name.now a.size ≡ given tt = sym c.ask_new.ensures ∙ c.in_ok-ask_new.was in (
-      rw (c.entries.ensures, c.table-t.ensures) (placed a.flash.now.setting a.flash.now.image.now a.flash.now.view c.args.flash.now.seen),
+      rw c.entries.ensures (placed a.flash.now.setting a.flash.now.image.now a.flash.now.view c.args.flash.now.seen),
       (size_passed a.flash.now.setting a.flash.now.image.now a.flash.now.view c.args.flash.now.seen a.name.now a.size asked, omega arith),
     )
 
@@ -24,7 +24,7 @@ returns-then-len-start-clause-job c =
     let a = c.args in
     let asked : new_asked a.flash.now.image.now a.flash.now.view a.name.now a.size ≡ given tt = sym c.ask_new.ensures ∙ c.in_ok-ask_new.was in
     let lowest : c.lowest_start-start.result ≡ created_start a.flash.now.image.now a.flash.now.view a.size =
-    rw (c.entries.ensures, c.table-t.ensures, c.pointers-p.ensures) at c.lowest_start-start.ensures in
+    rw (c.entries.ensures, c.pointers-p.ensures) at c.lowest_start-start.ensures in
     create_refused a.flash.now.setting a.flash.now.image.now a.flash.now.view c.args.flash.now.seen a.name.now a.size asked (omega (arith, lowest, c.if-len-start.true))
 
 pub put_new_row-requires : goal.put_new_row-requires
@@ -32,8 +32,8 @@ put_new_row-requires c =
     let a = c.args in
     let asked : new_asked a.flash.now.image.now a.flash.now.view a.name.now a.size ≡ given tt = sym c.ask_new.ensures ∙ c.in_ok-ask_new.was in (
       (
-        c.bytes.ensures.1,
-        rw (c.bytes.ensures.0, c.table-t.ensures) (row_left a.flash.now.setting a.flash.now.image.now a.flash.now.view c.args.flash.now.seen a.name.now a.size asked),
+        c.block_at-t.ensures.1,
+        rw c.block_at-t.ensures.0 (row_left a.flash.now.setting a.flash.now.image.now a.flash.now.view c.args.flash.now.seen a.name.now a.size asked),
       ),
       (
         short_if_allowed a.name.now (name_passed a.flash.now.setting a.flash.now.image.now a.flash.now.view c.args.flash.now.seen a.name.now a.size asked),
@@ -52,9 +52,9 @@ returns-clause-job c =
     let t = block a.flash.now.image.now a.flash.now.view.table in
     let asked : new_asked a.flash.now.image.now a.flash.now.view a.name.now a.size ≡ given tt = sym c.ask_new.ensures ∙ c.in_ok-ask_new.was in
     let lowest : c.lowest_start-start.result ≡ created_start a.flash.now.image.now a.flash.now.view a.size =
-    rw (c.entries.ensures, c.table-t.ensures, c.pointers-p.ensures) at c.lowest_start-start.ensures in
+    rw (c.entries.ensures, c.pointers-p.ensures) at c.lowest_start-start.ensures in
     let put : c.put_new_row.new.room ≡ with_new_row t a.name.now (created_start a.flash.now.image.now a.flash.now.view a.size) a.size =
-    rw (c.bytes.ensures.0, c.table-t.ensures, lowest) at c.put_new_row.ensures in
+    rw (c.block_at-t.ensures.0, lowest) at c.put_new_row.ensures in
     let to = c.target-to.result in
     ap given ((pair_means _ _ _ to.at0 to.at1 c.put_new_row.new.room c.pair_plan.ensures).job a.flash.now.image.now)
     ∙ rw (put, c.target-to.ensures)
