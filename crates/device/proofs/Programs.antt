@@ -4,7 +4,7 @@ use Rattle.std.proofs.Math.ListN.{drop_of_length-le}
 use Rattle.rules.specs.Steps.{step, steps, programmed, programs}
 use Rattle.rules.specs.declared.Step.TheVariants.{Program}
 
-programs_cons : (a : ℕ) (bs : List ℕ) (i : ℕ) → i < length bs
+pub programs_cons : (a : ℕ) (bs : List ℕ) (i : ℕ) → i < length bs
     → programs (a + i) (drop i bs) ≡ Program (a + i) (get_or bs i 0) ∷ programs (a + (i + 1)) (drop (i + 1) bs)
 unfolding programs
 programs_cons a bs i h =
