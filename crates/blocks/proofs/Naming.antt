@@ -12,11 +12,12 @@ use lib.ListN.{length, get_or, take, drop, drop_of_length-le, get_or-eq_default}
 use native.Mathlib.Numerals.{add-one}
 use Rattle.rules.specs.Lists.{member, without, all, any, keep}
 use Rattle.rules.specs.Bytes.{up_to_zero}
-use Rattle.rules.specs.Table.{Entry, no_entry, is_slot, slots, slot_starts, has_name, is_fixed_name}
+use Rattle.rules.specs.Table.{Entry, rows, no_entry, is_slot, slots, slot_starts, has_name, is_fixed_name}
 use Rattle.rules.specs.Readers.{slot_row}
 use Rattle.entries.proofs.Turns.{turn}
 use Rattle.rules.specs.Commands.{name_allowed, name_free}
 use Rattle.rules.proofs.Lists.Tests.{by_cases}
+use Rattle.rules.proofs.Table.Standing.{length-entries_from}
 use Rattle.rules.proofs.Order.Ordering.{eqb_swapped, member_of_without}
 use Rattle.rules.proofs.Order.OnceEach.{left_out}
 use Rattle.walks.specs.Find.{find}
@@ -154,3 +155,10 @@ module _ (es : List Entry) (v a : ℕ) where
       member-without v a (slot_starts es)
       ∙ rw (member_of_starts v es, any-find (slot_from v) es, le-ltb (find (slot_from v) es) (length es) (omega arith))
       (and_with_false (not (eqb v a)))
+
+-- the same as one equation: v is another number than a, and some counted entry is a slot that starts there
+pub other_start_is : (v a n i : ℕ) (t : List ℕ) → i ≡ find (slot_from v) (rows n t)
+    → not (eqb v a) && ltb i n ≡ member v (without a (slot_starts (rows n t)))
+other_start_is v a n i t e =
+    sym (member-without v a (slot_starts (rows n t))
+    ∙ rw (member_of_starts v (rows n t), any-find (slot_from v) (rows n t), ← e, length-entries_from n (drop 0x20 t)))

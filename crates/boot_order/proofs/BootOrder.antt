@@ -121,18 +121,19 @@ pub none_before : (starts p row : List ℕ) (end : ℕ) → end ≡ free_from p
 none_before starts p row end e = rw (e, none_above starts p (free_from p) (free_places p))
 
 -- one turn of a walk from place k down to place k - 1
-module _ (starts p : List ℕ) (k met : ℕ) (above : 0 < k) (m : MetFrom starts p k met) where
-  order_down : order starts (drop (k - 1) (places p))
+module _ (starts p : List ℕ) (k : ℕ) (above : 0 < k) (within : k ≤ place_count p) where
+  pub order_down : order starts (drop (k - 1) (places p))
       ≡ then (order starts (drop k (places p))) (added_at starts p (k - 1))
   unfolding added_at
   order_down =
       let e : k - 1 + 1 ≡ k = omega arith in
-      rw (place_down p k above m.within, e) (order-then starts (drop k (places p)) (place_value p (k - 1)))
+      rw (place_down p k above within, e) (order-then starts (drop k (places p)) (place_value p (k - 1)))
 
+module _ (starts p : List ℕ) (k met : ℕ) (above : 0 < k) (m : MetFrom starts p k met) where
   module _ (adds : added_at starts p (k - 1) ≡ None) where
     pub same_order : order starts (drop (k - 1) (places p)) ≡ order starts (drop k (places p))
     unfolding then
-    same_order = order_down ∙ rw adds
+    same_order = order_down starts p k above m.within ∙ rw adds
 
     pub none_more : MetFrom starts p (k - 1) met
     none_more = record {
@@ -144,7 +145,7 @@ module _ (starts p : List ℕ) (k met : ℕ) (above : 0 < k) (m : MetFrom starts
   module _ (s : SlotNo) (adds : added_at starts p (k - 1) ≡ Some s) where
     more_order : order starts (drop (k - 1) (places p)) ≡ order starts (drop k (places p)) ++ (s.0 ∷ [])
     unfolding then
-    more_order = order_down ∙ rw adds
+    more_order = order_down starts p k above m.within ∙ rw adds
 
     pub one_more : MetFrom starts p (k - 1) (met + 1)
     one_more = record {

@@ -22,7 +22,7 @@ const ENTRY_LENGTH: usize = 32;
 pub const NAME_LENGTH: usize = 16;
 
 // One entry of a lent table.
-#[derive(Drop)]
+#[derive(Clone, Drop)]
 pub struct Entry<'a> {
     bytes: &'a [u8],
 }
@@ -81,7 +81,7 @@ impl<'a> Entry<'a> {
 }
 
 // The first entries of a lent table, no more than it has room for.
-#[derive(Drop)]
+#[derive(Clone, Drop)]
 pub struct Entries<'a> {
     rows: &'a [[u8; ENTRY_LENGTH]],
 }

@@ -1,2 +1,3 @@
 mod Names
+mod Numbered
 mod Slots

@@ -14,7 +14,7 @@ use Rattle.part_steps.proofs.RewriteSteps.{length-rewrite}
 use Rattle.part_steps.proofs.PlaceNumbers.{length_numbers}
 use Rattle.part_steps.proofs.PlaceSteps.{length_places}
 
-length_part : (a offset count : ℕ) (b ks v : List ℕ) (sized : Sized b ks v) (kind : Kind)
+pub length_part : (a offset count : ℕ) (b ks v : List ℕ) (sized : Sized b ks v) (kind : Kind)
     → length (part kind a offset b (meant count ks) v) ≡ part_length kind (min count place_room)
 unfolding part part_length
 length_part a offset count b ks v sized Nothing = refl

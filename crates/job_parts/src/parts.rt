@@ -38,7 +38,10 @@ fn part_of<'a>(
 {
     match kind {
         Kind::Nothing => Part::Nothing,
-        Kind::Rewrite => Part::Rewrite(Rewriting { at, block }),
+        Kind::Rewrite => Part::Rewrite(Rewriting {
+            at: at as usize,
+            block,
+        }),
         Kind::Places => Part::Places(IntoPlaces {
             at,
             offset: plan.offset,

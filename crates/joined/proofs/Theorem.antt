@@ -1,10 +1,10 @@
 -- Demand 3 said of what a caller of the code sees, in plain words.
 --
 -- Take a flash whose two pairs agree, and any list of commands carried out by the code. Each is started by its function
--- on the flash as it then is. The job that the start returned is run by any number of calls of `jobs::run` with any
+-- on the flash as it then is. The job that the start returned is run by any number of calls of `Job::run` with any
 -- budgets, each with the job and on the image that the last call left. The power may fail between two steps or inside
 -- an erase; the unfinished job is then lost. Nothing is known of these calls but what the contracts of the start and of
--- `jobs::run` say.
+-- `Job::run` say.
 -- Beside the flash the book of demand 3 is kept: it is told each command and whether it was refused, finished or cut,
 -- which is what the calls returned, and for a create it looks at the flash that the command got. Then there are choices
 -- for the cut commands with which, after every command:

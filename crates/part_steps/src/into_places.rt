@@ -80,7 +80,7 @@ impl<'a> IntoPlaces<'a> {
     // Do those in a window, whatever the granule.
     pub fn run(&self, image: &mut [u8], granule: usize, window: Window)
         requires { all (inside granule (length image.old)) (drop window.from self.now) ≡ true }
-        ensures { image.new ≡ steps granule (chosen window self.now) image.old }
+        ensures { (g : ℕ) → image.new ≡ steps g (chosen window self.now) image.old }
     {
         let mut rest = window;
         for i in 0..self.count.min(rules::MOST_PLACES) {

@@ -37,7 +37,7 @@ pub fn are_inside(len: usize, at: usize, size: usize, from: usize) -> bool
 
 // The first of them.
 pub fn next_program(at: usize, given: &[u8], from: usize) -> Option<Step>
-    requires { (at ≤ highest_address) × (length given.now ≤ block_size) }
+    requires { (at ≤ highest_address + 4) × (length given.now ≤ block_size) }
     ensures { result ≡ first_step (drop from (programs at given.now)) }
 {
     let byte = given.get(from)?;

@@ -22,21 +22,22 @@ const REST_SIZE: usize = rules::BLOCK_SIZE - 4;
 // A block rewritten at an address, as its steps.
 #[derive(Drop)]
 pub struct Rewriting<'a> {
-    pub at: u32,
+    pub at: usize,
     pub block: &'a [u8; rules::BLOCK_SIZE],
 }
 
 impl<'a> Model for Rewriting<'a> {
-    ghost use Rattle.std.specs.Prelude.{◌≡◌, List, length};
+    ghost use Rattle.std.specs.Prelude.{◌≡◌, ◌≤◌, List, length};
     ghost use Rattle.rules.specs.Bytes.{block_size};
     ghost use Rattle.rules.specs.declared.Step.{Step};
     ghost use Rattle.rules.specs.Steps.{rewrite};
+    ghost use Rattle.part_steps.specs.Inner.Windows.{highest_address};
 
     ghost Value = { List Step };
 
     ghost view = { λ r. rewrite r.at r.block.now };
 
-    ghost invariant = { λ r. length r.block.now ≡ block_size };
+    ghost invariant = { λ r. (length r.block.now ≡ block_size) × (r.at ≤ highest_address) };
 }
 
 fn do_erase(image: &mut [u8], at: usize, granule: usize, window: Window) -> Window
@@ -60,7 +61,7 @@ fn erase_is_inside(granule: usize, len: usize, at: usize, from: usize) -> bool
 }
 
 #[tactic(auto, unfolding(crate::specs::Inner::Windows::rewrite_inside))]
-fn is_inside(granule: usize, len: usize, at: usize, from: usize) -> bool
+pub fn is_inside(granule: usize, len: usize, at: usize, from: usize) -> bool
     requires { at ≤ highest_address }
     ensures { result ≡ rewrite_inside granule len at from }
 {
@@ -86,7 +87,7 @@ impl<'a> Rewriting<'a> {
         requires { all (inside granule (length image.old)) (drop window.from self.now) ≡ true }
         ensures { image.new ≡ steps granule (chosen window self.now) image.old }
     {
-        let at = self.at as usize;
+        let at = self.at;
         let block = self.block;
         let after = programs::do_range(image, at, &[0; 4], window);
         let rest = do_erase(image, at, granule, after);
@@ -98,14 +99,14 @@ impl<'a> Rewriting<'a> {
     pub fn are_inside(&self, granule: usize, len: usize, from: usize) -> bool
         ensures { result ≡ all (inside granule len) (drop from self.now) }
     {
-        is_inside(granule, len, self.at as usize, from)
+        is_inside(granule, len, self.at, from)
     }
 
     // The first of those from one on.
     pub fn next(&self, from: usize) -> Option<Step>
         ensures { result ≡ first_step (drop from self.now) }
     {
-        let at = self.at as usize;
+        let at = self.at;
         let block = self.block;
         if from < 4 {
             return Some(Step::Program(at + from, 0));

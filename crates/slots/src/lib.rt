@@ -9,7 +9,7 @@ ghost use Rattle.walks.specs.Find.{find};
 ghost use Rattle.walks.specs.Last.{last_from};
 ghost use Rattle.walks.specs.Entries.{HasEntries, slot_from};
 ghost use Rattle.entries.specs.Tests.{Found};
-ghost use Rattle.slots.specs.Inner.RowsOf.{slots_before};
+ghost use Rattle.slots.specs.Inner.RowsOf.{slots_from, slots_before};
 
 use entries::{Entries, Entry};
 use rules::{EntryNo, SlotNo};
@@ -110,7 +110,7 @@ fn last_from(entries: &Entries<'_>) -> EntryNo
 // A lent table of which all entries count that it says it has, with what slot numbers follow from: the entry from which on
 // all are slots, and how many slots come before it. A table has its slots last as a rule, so that most slot numbers follow
 // from entry numbers without a count.
-#[derive(Drop)]
+#[derive(Clone, Drop)]
 pub struct Table<'a> {
     bytes: &'a [u8],
     entries: Entries<'a>,
@@ -158,6 +158,20 @@ impl<'a> Table<'a> {
         ensures { result.now ≡ entries self.now }
     {
         &self.entries
+    }
+
+    // The entry from which on all are slots; the number of entries where the last is none.
+    pub fn from(&self) -> EntryNo
+        ensures { result.0 ≡ slots_from self.now }
+    {
+        self.from
+    }
+
+    // How many slots come before it.
+    pub fn before(&self) -> usize
+        ensures { result ≡ slots_before self.now (slots_from self.now) }
+    {
+        self.before
     }
 
     // The number of the slot at an entry: as many slots come before it.

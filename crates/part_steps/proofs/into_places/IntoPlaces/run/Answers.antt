@@ -58,11 +58,10 @@ loop-i-preserved c =
     )
 
 pub returns : goal.returns
-returns c =
-    let a = c.args in
+returns c g =
     let p = c.self.inside in
     let ks = meant p.count p.places.now in
     rw (← c.self.view_is)
-    (sym (c.loop-i.invariant.1.1 a.granule
-    ∙ steps_none p.at p.offset p.value.now c.self.invariant a.granule c.loop-i.rest (drop c.loop-i.i ks) c.loop-i.image
+    (sym (c.loop-i.invariant.1.1 g
+    ∙ steps_none p.at p.offset p.value.now c.self.invariant g c.loop-i.rest (drop c.loop-i.i ks) c.loop-i.image
     (numbers_over (min p.count place_room) c.loop-i.i p.places.now (omega arith))))

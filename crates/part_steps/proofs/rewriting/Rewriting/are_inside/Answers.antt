@@ -8,4 +8,4 @@ returns c =
     let a = c.args in
     let r = c.self.inside in
     rw (← c.self.view_is)
-    (c.is_inside.ensures ∙ sym (inside-rewrite r.at r.block.now c.self.invariant a.granule a.len a.from))
+    (c.is_inside.ensures ∙ sym (inside-rewrite r.at r.block.now c.self.invariant.0 a.granule a.len a.from))

@@ -30,7 +30,7 @@ pub do_range-after-requires : goal.do_range-after-requires
 do_range-after-requires c =
     let a = c.args in
     let r = c.self.inside in
-    (parts a.granule (length a.image.now) r.at a.window.from r.block.now a.self.now c.self.invariant c.self.view_is c.requires).0
+    (parts a.granule (length a.image.now) r.at a.window.from r.block.now a.self.now c.self.invariant.0 c.self.view_is c.requires).0
 
 pub do_erase-rest-requires : goal.do_erase-rest-requires
 unfolding beyond
@@ -38,7 +38,7 @@ do_erase-rest-requires c =
     let a = c.args in
     let r = c.self.inside in
     rw (c.do_range-after.auto.image, c.do_range-after.ensures.value)
-    (parts a.granule (length a.image.now) r.at a.window.from r.block.now a.self.now c.self.invariant c.self.view_is c.requires).1.0
+    (parts a.granule (length a.image.now) r.at a.window.from r.block.now a.self.now c.self.invariant.0 c.self.view_is c.requires).1.0
 
 pub do_range-last-requires : goal.do_range-last-requires
 unfolding beyond
@@ -46,7 +46,7 @@ do_range-last-requires c =
     let a = c.args in
     let r = c.self.inside in
     let size : length (take rest_size (drop 4 r.block.now)) ≡ rest_size =
-    simp (length-take, length-drop) (omega (arith, c.self.invariant)) in
+    simp (length-take, length-drop) (omega (arith, c.self.invariant.0)) in
     rw (
       c.do_erase-rest.auto.image,
       c.do_range-after.auto.image,
@@ -54,7 +54,7 @@ do_range-last-requires c =
       c.do_erase-rest.ensures.value,
       c.do_range-after.ensures.value,
     )
-    (parts a.granule (length a.image.now) r.at a.window.from r.block.now a.self.now c.self.invariant c.self.view_is c.requires).1.1.0
+    (parts a.granule (length a.image.now) r.at a.window.from r.block.now a.self.now c.self.invariant.0 c.self.view_is c.requires).1.1.0
 
 pub do_range-requires : goal.do_range-requires
 unfolding beyond
@@ -62,8 +62,8 @@ do_range-requires c =
     let a = c.args in
     let r = c.self.inside in
     let rest : length (take rest_size (drop 4 r.block.now)) ≡ rest_size =
-    simp (length-take, length-drop) (omega (arith, c.self.invariant)) in
-    let size : length (take 4 r.block.now) ≡ 4 = simp length-take (omega (arith, c.self.invariant)) in
+    simp (length-take, length-drop) (omega (arith, c.self.invariant.0)) in
+    let size : length (take 4 r.block.now) ≡ 4 = simp length-take (omega (arith, c.self.invariant.0)) in
     rw (
       c.do_range-last.auto.image,
       c.do_erase-rest.auto.image,
@@ -74,15 +74,15 @@ do_range-requires c =
       c.do_erase-rest.ensures.value,
       c.do_range-after.ensures.value,
     )
-    (parts a.granule (length a.image.now) r.at a.window.from r.block.now a.self.now c.self.invariant c.self.view_is c.requires).1.1.1
+    (parts a.granule (length a.image.now) r.at a.window.from r.block.now a.self.now c.self.invariant.0 c.self.view_is c.requires).1.1.1
 
 pub returns : goal.returns
 returns c =
     let a = c.args in
     let r = c.self.inside in
-    let whole = take_all rest_size (drop 4 r.block.now) (simp length-drop (omega (arith, c.self.invariant))) in
+    let whole = take_all rest_size (drop 4 r.block.now) (simp length-drop (omega (arith, c.self.invariant.0))) in
     rw (← c.self.view_is)
-    (rewrite_done r.at r.block.now c.self.invariant a.granule a.window c.do_range-after.result
+    (rewrite_done r.at r.block.now c.self.invariant.0 a.granule a.window c.do_range-after.result
     c.do_erase-rest.result c.do_range-last.result _ a.image.now c.do_range-after.new.image
     c.do_erase-rest.new.image c.do_range-last.new.image c.do_range.new.image
     whole

@@ -6,4 +6,4 @@ use Rattle.part_steps.proofs.rewriting.Rewriting.step_count.Goals as goal
 pub returns : goal.returns
 returns c =
     let r = c.self.inside in
-    (rw (← c.self.view_is) (sym (length-rewrite r.at r.block.now c.self.invariant)), refl)
+    (rw (← c.self.view_is) (sym (length-rewrite r.at r.block.now c.self.invariant.0)), refl)
