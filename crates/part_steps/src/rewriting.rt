@@ -60,6 +60,7 @@ fn erase_is_inside(granule: usize, len: usize, at: usize, from: usize) -> bool
     1 <= from || bounds::ends_by(at as u64, granule as u64, len as u64)
 }
 
+// The steps of a rewrite from one on reach nothing outside an image of that length.
 #[tactic(auto, unfolding(crate::specs::Inner::Windows::rewrite_inside))]
 pub fn is_inside(granule: usize, len: usize, at: usize, from: usize) -> bool
     requires { at ≤ highest_address }
