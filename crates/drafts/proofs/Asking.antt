@@ -80,6 +80,13 @@ module _ (img : List ℕ) (v : View) (k : ℕ) (asked : slot_asked img v k ≡ g
 
 -- ---- the commands
 
+-- a slot is in the boot order if a place gives it
+pub in_order_by : (img : List ℕ) (v : View) (k : ℕ)
+    → member k (boot_order img v)
+    ≡ ltb 0 (length (giving (starts (block img v.table)) k 0 (places (block img v.pointers))))
+unfolding boot_order order_by
+in_order_by img v k = in_order (starts (block img v.table)) k 0 (places (block img v.pointers))
+
 module _ (s : Setting) (img : List ℕ) (v : View) (h : view s img ≡ given v) (k : ℕ) where
   abbrev t : List ℕ
   t = block img v.table
@@ -100,16 +107,11 @@ module _ (s : Setting) (img : List ℕ) (v : View) (h : view s img ≡ given v) 
   unfolding job_by job
   enable_asked = rw (unless-bind, unless-bind, unless-bind, unless-bind) (asked_by _)
 
-  -- a slot is in the boot order if a place gives it
-  pub in_order_by : member k (boot_order img v) ≡ ltb 0 (length (giving (starts t) k 0 (places p)))
-  unfolding boot_order order_by
-  in_order_by = in_order (starts t) k 0 (places p)
-
   pub disable_asked : job_by s img v (disable k)
       ≡ (slot_asked img v k >>= λ _.
       unless NotInOrder (ltb 0 (length (giving (starts t) k 0 (places p)))) (given (job_for s.granule img v (disable k))))
   unfolding job_by job
-  disable_asked = rw (unless-bind, unless-bind, unless-bind, in_order_by) (asked_by _)
+  disable_asked = rw (unless-bind, unless-bind, unless-bind, in_order_by img v k) (asked_by _)
 
   pub rename_asked : (name : List ℕ)
       → job_by s img v (rename k name)
@@ -124,7 +126,7 @@ module _ (s : Setting) (img : List ℕ) (v : View) (h : view s img ≡ given v) 
       ≡ (slot_asked img v k >>= λ _.
       unless IsInOrder (not (ltb 0 (length (giving (starts t) k 0 (places p))))) (given (job_for s.granule img v (delete k))))
   unfolding job_by job
-  delete_asked = rw (unless-bind, unless-bind, unless-bind, in_order_by) (asked_by _)
+  delete_asked = rw (unless-bind, unless-bind, unless-bind, in_order_by img v k) (asked_by _)
 
   -- ---- past the refusals
 

@@ -9,7 +9,6 @@ use lib.Dec.{eqb}
 use lib.ListN.{length, take, drop, replicate, length-take, length-drop}
 use lib.Seq.{take_all}
 use Rattle.std.proofs.Common.{le_refl}
-use Rattle.std.proofs.Common.{nat_eq}
 use borrow.Author.Tests.{eq-eqb, ne_eqb, eqb-true, eqb-false}
 use Rattle.std.specs.List.{list_all}
 use Rattle.rules.specs.Lists.{same, all, first_clash}

@@ -17,7 +17,7 @@ pub fn is_on_granules(e: &Entry<'_>, granule: u64) -> bool
 
 // It starts at an address, if it has that name.
 #[tactic(auto, unfolding(rules::specs::Table::if_named, rules::specs::Table::starts_at))]
-fn starts_if_named(e: &Entry<'_>, wanted: &[u8], at: u64) -> bool
+pub fn starts_if_named(e: &Entry<'_>, wanted: &[u8], at: u64) -> bool
     ensures { result ≡ if_named (up_to_zero wanted.now) (starts_at at) e.now }
 {
     !e.has_name(wanted) | (e.start() == at)

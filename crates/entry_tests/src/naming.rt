@@ -46,8 +46,7 @@ pub fn fields_differ(d: &Entry<'_>, e: &Entry<'_>) -> bool
     words_differ(d.name(), e.name())
 }
 
-// Two fields of 16 bytes differ: mostly their first eight bytes do. Compared byte by byte the standing of a full table took
-// half as long again.
+// Two fields of 16 bytes differ: mostly their first eight bytes do, and as numbers eight are compared at once.
 fn words_differ(x: &[u8], y: &[u8]) -> bool
     requires { (length x.now ≡ 16) × (length y.now ≡ 16) }
     ensures { result ≡ not (same x.now y.now) }

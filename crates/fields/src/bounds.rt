@@ -5,8 +5,7 @@ ghost use Rattle.fields.specs.Bounds.{part};
 
 use std::ops::Range;
 
-// A range ends at a bound or before it: exact, where start + size would wrap. By a difference: with checked_add a table whose
-// ranges do not ascend took a fifth longer to judge.
+// A range ends at a bound or before it: exact, where start + size would wrap.
 pub fn ends_by(start: u64, size: u64, bound: u64) -> bool
     ensures { result ≡ leb (start + size) bound }
 {

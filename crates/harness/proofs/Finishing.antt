@@ -1,5 +1,5 @@
 -- A start that is run to its end does all its listed steps: it is never refused 12. Assumes nothing.
-use mathlib.Core.Path.{◌≡◌, refl, sym, ap, ◌∙◌}
+use mathlib.Core.Path.{◌≡◌, refl, ap, ◌∙◌}
 use mathlib.Core.List.{List, [], ◌∷◌}
 use Prim.Native.Nat.{ℕ, zero, suc}
 use native.Mathlib.Omega.{arith}
@@ -21,8 +21,7 @@ use Rattle.rules.proofs.Claim.Bridge.{never_refused_12}
 use Rattle.jobs.specs.Jobs.{Ran, under_way, admitted, steps_done, ran, progress_after, steps_left}
 use Rattle.jobs.specs.declared.Job.{Job}
 use Rattle.blocks.specs.Made.{Lists}
-use Rattle.commands.specs.Begins.{command_of, start_answer, Begins}
-use Rattle.commands.proofs.StartLists.{start_lists}
+use Rattle.commands.specs.Begins.{command_of, Begins}
 use Rattle.commands.specs.declared.Command.{Command as Asked}
 use Rattle.commands.proofs.NameLent.{bytes_lent}
 use Rattle.book_entries.specs.Tables.{new_name}
@@ -79,10 +78,10 @@ all_steps g img j (s ∷ l) lists may =
 -- ---- a command
 
 module _ (s : Setting) (img : List ℕ) (c : Command) (b : Answer Job) (bytes : Bytes img) (names : NameBytes c)
-    (begun : b ≡ start_answer s img c) where
+    (begun : Begins b (length img) s.granule (start s img c)) where
   pub finishes : (done_begun b img ≡ finished (start s img c))
       × (left_begun b img ≡ left_finished s.granule img (start s img c))
-  finishes = by_answer (start s img c) refl (rw begun (start_lists s img c))
+  finishes = by_answer (start s img c) refl begun
     where
       by_answer : (a : Answer (List Step)) → start s img c ≡ a → Begins b (length img) s.granule a
           → (done_begun b img ≡ finished a) × (left_begun b img ≡ left_finished s.granule img a)

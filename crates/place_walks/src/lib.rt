@@ -85,8 +85,8 @@ pub fn occurs_above(p: &PointerBlock<'_>, place: PlaceNo, v: u64) -> bool
     false
 }
 
-// The place from which on to look for the value: none between this one and that has it. Four at a time: one by one, an
-// order list of many places took half as long again.
+// The place from which on to look for the value: none between this one and that has it. Four at a time, since most places
+// hold another value.
 #[tactic(auto, using(crate::proofs::Free::four_without))]
 fn not_held_to(p: &PointerBlock<'_>, place: PlaceNo, v: u64) -> PlaceNo
     requires { place.0 < place_count p.now }

@@ -37,7 +37,7 @@ pub const ALL_ONES: u64 = 0xFFFF_FFFF_FFFF_FFFF;
 const TOP_BYTE: u64 = 0x0100_0000_0000_0000;
 
 // A lent pointer block that stands, with its free place: the lowest such that it and all above are erased, or the count.
-#[derive(Drop)]
+#[derive(Clone, Drop)]
 pub struct PointerBlock<'a> {
     bytes: &'a [u8],
     free: PlaceNo,

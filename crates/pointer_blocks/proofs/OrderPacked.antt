@@ -8,6 +8,7 @@ use lib.Dec.{leb, ltb}
 use borrow.Author.Tests.{eq-eqb, ne_eqb, le-leb, leb-true}
 use lib.ListN.{length, get_or, take, drop, length-map}
 use lib.Seq.{drop-cons, drop-length, take-append_seam}
+use Rattle.std.proofs.lemmas.List.{drop_all}
 use Rattle.rules.specs.Lists.{without}
 use Rattle.rules.specs.Table.{entries, slots, slot_starts, starts}
 use Rattle.rules.specs.Pointers.{place_count, places, order}
@@ -53,6 +54,22 @@ module _ (k : ℕ) (starts o : List ℕ) (i : ℕ) (above : 0 < i) (within : i �
       rw (next_of_order, ne_eqb k (get_or o (i - 1) 0) (λ e. other (sym e)))
       (pointers_first (get_or o (i - 1) 0) starts (without k (drop i o)))
 
+-- ---- how many slots of an order are not one
+
+module _ (k : ℕ) (o : List ℕ) where
+  pub none_left : (i : ℕ) → length o ≤ i → length (without k (drop i o)) ≡ 0
+  unfolding without
+  none_left i past = rw (drop_all i o past)
+
+  module _ (i : ℕ) (within : i < length o) where
+    pub other_left : (get_or o i 0 ≡ k → ⊥) → length (without k (drop i o)) ≡ suc (length (without k (drop (suc i) o)))
+    unfolding without
+    other_left other = rw (drop-cons o i 0 within, ne_eqb k (get_or o i 0) (λ e. other (sym e)))
+
+    pub same_left : get_or o i 0 ≡ k → length (without k (drop i o)) ≡ length (without k (drop (suc i) o))
+    unfolding without
+    same_left e = rw (drop-cons o i 0 within, e, eq-eqb k k refl)
+
 -- ---- how many slots the boot order has
 
 module _ (t p : List ℕ) where
@@ -94,6 +111,11 @@ module _ (t p : List ℕ) where
       place_left enough =
           rw (← others_counted) at
           (leb-true (length (k ∷ without k (order (starts t) (places p)))) (place_count p) enough)
+
+    pub enough_by_others : (n : ℕ) → n ≡ length (without k (order_by t p))
+        → ltb n (place_count p) ≡ enough_places (starts t) p k
+    enough_by_others n counted =
+        enough_by_count n (counted ∙ sym (length-pointers_of (starts t) (without k (order_by t p))))
 
 -- an order at the front of a row
 pub front_of_row : (o row after : List ℕ) (len : ℕ) → len ≡ length o → after ≡ o ++ drop (length o) row

@@ -10,7 +10,7 @@ ghost use Rattle.rules.specs.Copies.{order_by};
 ghost use Rattle.rules.specs.Commands.{filled, pointers_of, enough_places};
 ghost use Rattle.pointer_blocks.specs.Inner.Packed.{Packed};
 
-use blocks::{bytes, tables};
+use blocks::tables;
 use places::PointerBlock;
 use rules::SlotNo;
 use slots::Table;
@@ -32,16 +32,33 @@ pub fn order_without(t: &Table<'_>, p: &PointerBlock<'_>, slot: SlotNo, room: &m
 }
 
 // The block has a place for each slot of the order with this one in front, as a block with a place for each entry has.
-#[tactic(auto, using(crate::proofs::OrderPacked::enough_by_entries, crate::proofs::OrderPacked::enough_by_count))]
+#[tactic(auto, using(crate::proofs::OrderPacked::enough_by_entries, crate::proofs::OrderPacked::enough_by_others, crate::proofs::OrderPacked::order_in_entries, crate::proofs::OrderPacked::front_of_row))]
 pub fn enough_places(t: &Table<'_>, p: &PointerBlock<'_>, slot: SlotNo) -> bool
     requires { slot.0 < length (slots (entries t.now)) }
     ensures { result ≡ enough_places (starts t.now) p.now slot.0 }
 {
-    if t.entries().len() <= p.count() {
+    let entries = t.entries().len();
+    if entries <= p.count() {
         return true;
     }
-    let mut room = bytes::erased_block();
-    order_without(t, p, slot, &mut room) < p.count()
+    prove!(entries <= rules::MOST_ENTRIES);
+    let mut row = [0; rules::MOST_ENTRIES];
+    let len = boot_order::write_order(t, p, &mut row);
+    others(&row[..len], slot) < p.count()
+}
+
+// How many slots of an order are not this one.
+#[tactic(auto, using(crate::proofs::OrderPacked::none_left, crate::proofs::OrderPacked::other_left, crate::proofs::OrderPacked::same_left))]
+fn others(order: &[u32], slot: SlotNo) -> usize
+    ensures { result ≡ length (without slot.0 order.now) }
+{
+    let mut count = 0;
+    for other in order {
+        if *other != slot.0 {
+            count += 1;
+        }
+    }
+    count
 }
 
 // The same with the slot, which starts there, in front of the order: its pointer is the last.

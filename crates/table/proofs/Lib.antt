@@ -1,2 +1,2 @@
-mod Named
-mod Told
+pub mod Named
+pub mod Told

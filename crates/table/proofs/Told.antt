@@ -1,5 +1,5 @@
 -- The fault of a table copy: one law for each exit of the code that looks for the rule. Assumes nothing.
-use Rattle.std.proofs.Common.{◌≡◌, refl, sym, ◌∙◌, subst, Bool, true, false, ◌&&◌, Option, Some, None, List, [], ◌∷◌, ℕ, ◌<◌, arith, length, eqb}
+use Rattle.std.proofs.Common.{◌≡◌, refl, sym, ◌∙◌, subst, Bool, true, false, ◌&&◌, Option, Some, None, List, [], ℕ, ◌<◌, arith, length, eqb}
 use borrow.Author.Tests.{eq-eqb, ne_eqb, eqb-true}
 use Rattle.rules.specs.Lists.{all, pairwise, first_failing, first_clash}
 use Rattle.rules.specs.Answers.{no_entry_number, broken, no_fault}

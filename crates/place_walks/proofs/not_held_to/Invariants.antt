@@ -1,4 +1,4 @@
-use Rattle.std.proofs.Common.{◌≡◌, ◌-◌, ◌≤◌, ◌+◌, drop}
+use Rattle.std.proofs.Common.{◌≡◌, ◌-◌, ◌≤◌, drop}
 use Rattle.rules.specs.Lists.{member}
 use Rattle.rules.specs.Pointers.{place_count, places}
 use Rattle.place_walks.specs.Inner.Added.{occurs_above}

@@ -1,5 +1,5 @@
 -- 16 bytes are the same if both words of eight are.
-use Rattle.std.proofs.Common.{◌≡◌, rules}
+use Rattle.std.proofs.Common.{rules}
 use borrow.Author.Tests.{eq-eqb, ne_eqb}
 use Rattle.rules.specs.Bytes.{Bytes}
 use Rattle.entry_tests.proofs.Padding.{same_by_words}

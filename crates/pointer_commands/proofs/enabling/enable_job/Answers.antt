@@ -1,10 +1,7 @@
 -- `enable_job` is the job of enable. Assumes nothing.
 use mathlib.Core.Path.{refl, sym, ◌∙◌}
 use native.Mathlib.Omega.{arith}
-use Rattle.rules.specs.Table.{starts}
-use Rattle.rules.specs.Pointers.{places}
 use Rattle.rules.specs.Copies.{order_by}
-use Rattle.rules.specs.Commands.{free_place}
 use Rattle.places.specs.Inner.FreePlace.{free_from}
 use Rattle.place_walks.proofs.Free.{free_by_value}
 use Rattle.drafts.proofs.Drafting.{none_means, pair_means, means_too}
