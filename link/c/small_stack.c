@@ -1,6 +1,7 @@
 /* Calls delunkpawi_order on a stack of 8,192 bytes with a page below it that cannot be touched, on images of 3, 40 and
  * 121 slots, right ones and refused ones. Holds each answer to one worked out here, and prints the deepest byte of the
- * stack that the call used. More than 4,096 is a failure. */
+ * stack that the call used. More than 4,096 is a failure. The six starts are called so on a stack of 12,288 bytes, of
+ * which more than 8,192 is a failure. */
 #define _DEFAULT_SOURCE
 #define _XOPEN_SOURCE 700
 #include <stdio.h>
@@ -13,9 +14,9 @@
 
 #include "delunkpawi.h"
 
-enum { STACK_SIZE = 8192, STACK_LIMIT = 4096, GUARD_SIZE = 4096 };
+enum { STACK_SIZE = 8192, STACK_LIMIT = 4096, START_SIZE = 12288, START_LIMIT = 8192, GUARD_SIZE = 4096 };
 enum { BLOCK = 4096, GRANULE = 4096, SPT0 = 0x4000, SPT1 = 0x5000, CPB0 = 0x6000, CPB1 = 0x7000, FIRST_SLOT = 0x8000 };
-enum { SYSTEM_ENTRIES = 6, SLOTS_MAX = 121, PLACES = 508, IMAGE_MAX = FIRST_SLOT + SLOTS_MAX * BLOCK };
+enum { SYSTEM_ENTRIES = 6, SLOTS_MAX = 121, PLACES = 508, IMAGE_MAX = FIRST_SLOT + (SLOTS_MAX + 1) * BLOCK };
 
 static void fail(const char *what) {
     fprintf(stderr, "small_stack: %s\n", what);
@@ -25,27 +26,29 @@ static void fail(const char *what) {
 /* ---- The small stack */
 
 static uint8_t *stack; /* its lowest byte; the guard is below */
+static size_t stack_size;
 static ucontext_t here, there;
 
-static void make_stack(void) {
-    uint8_t *guard = mmap(NULL, GUARD_SIZE + STACK_SIZE, PROT_READ | PROT_WRITE, MAP_PRIVATE | MAP_ANONYMOUS, -1, 0);
-    if (guard == MAP_FAILED || sysconf(_SC_PAGESIZE) != GUARD_SIZE) fail("no stack of 8,192 bytes");
+static void make_stack(size_t size) {
+    uint8_t *guard = mmap(NULL, GUARD_SIZE + size, PROT_READ | PROT_WRITE, MAP_PRIVATE | MAP_ANONYMOUS, -1, 0);
+    if (guard == MAP_FAILED || sysconf(_SC_PAGESIZE) != GUARD_SIZE) fail("no small stack");
     if (mprotect(guard, GUARD_SIZE, PROT_NONE) != 0) fail("no guard below the stack");
     stack = guard + GUARD_SIZE;
+    stack_size = size;
 }
 
 /* Runs a function on the stack, filled with a byte before: how many bytes down from the top it changed one. */
 static size_t depth_over(void (*run)(void), uint8_t filling) {
     size_t unused = 0;
-    memset(stack, filling, STACK_SIZE);
+    memset(stack, filling, stack_size);
     if (getcontext(&there) != 0) fail("no context");
     there.uc_stack.ss_sp = stack;
-    there.uc_stack.ss_size = STACK_SIZE;
+    there.uc_stack.ss_size = stack_size;
     there.uc_link = &here;
     makecontext(&there, run, 0);
     if (swapcontext(&here, &there) != 0) fail("no switch to the small stack");
-    while (unused < STACK_SIZE && stack[unused] == filling) unused++;
-    return STACK_SIZE - unused;
+    while (unused < stack_size && stack[unused] == filling) unused++;
+    return stack_size - unused;
 }
 
 /* The same over two fillings, since a byte that is stored may equal one. */
@@ -275,10 +278,49 @@ static void try_spoilt(int slots) {
         }
 }
 
+/* ---- Starts */
+
+static uint8_t job[DELUNKPAWI_JOB_SIZE];
+static uint32_t last_slot;
+
+#define FLASH image, image_length, GRANULE, SPT0, SPT1
+#define NEW_NAME (const uint8_t *)"NEW", 3
+
+static void call_enable(void) { answer = delunkpawi_enable(FLASH, last_slot, job, sizeof job); }
+static void call_disable(void) { answer = delunkpawi_disable(FLASH, 0, job, sizeof job); }
+static void call_rename(void) { answer = delunkpawi_rename(FLASH, last_slot, NEW_NAME, job, sizeof job); }
+static void call_create(void) { answer = delunkpawi_create(FLASH, NEW_NAME, BLOCK, job, sizeof job); }
+static void call_delete(void) { answer = delunkpawi_delete(FLASH, last_slot, job, sizeof job); }
+static void call_repair(void) { answer = delunkpawi_repair(FLASH, job, sizeof job); }
+
+static const struct { const char *name; void (*call)(void); } starts_of[] = {
+    {"enable", call_enable}, {"disable", call_disable}, {"rename", call_rename},
+    {"create", call_create}, {"delete", call_delete},   {"repair", call_repair}};
+
+/* Slots 0 and 1 are in the order, no slot is empty, and one granule is free: all six start, but that a full table has no row
+ * for a new slot. A pointer block of four places has fewer than the table has entries. */
+static void try_starts(int slots, int places) {
+    make_image(SLOTS_LAST, TWO, slots);
+    image_length += BLOCK;
+    for (int slot = 0; slot < slots; slot++) image[starts[slot]] = 0;
+    put(CPB0 + 0x14, (uint64_t)places, 4);
+    put(CPB1 + 0x14, (uint64_t)places, 4);
+    last_slot = (uint32_t)slots - 1;
+    for (size_t i = 0; i < sizeof starts_of / sizeof *starts_of; i++) {
+        int refusal = starts_of[i].call == call_create && slots == SLOTS_MAX ? 41 : 0;
+        size_t depth = depth_of(starts_of[i].call);
+        printf("%5d  %-11s  %3d places%24s  %-8s %3d  %7zu\n", slots, starts_of[i].name, places, "",
+               refusal ? "refused" : "started", refusal, depth);
+        if (answer != refusal) fail("a start has another answer than expected");
+        if (depth > deepest) deepest = depth;
+        runs++;
+    }
+}
+
 int main(void) {
     static const int sizes[] = {3, 40, SLOTS_MAX};
     setvbuf(stdout, NULL, _IOLBF, 0); /* a call that passes the stack ends the program: what came before is seen */
-    make_stack();
+    make_stack(STACK_SIZE);
     try_stack();
     printf("slots  table        pointers, or what is wrong          answer        deepest\n");
     for (size_t i = 0; i < 3; i++) {
@@ -287,5 +329,15 @@ int main(void) {
     }
     printf("%zu runs on a stack of %d bytes: the deepest byte used is %zu\n", runs, STACK_SIZE, deepest);
     if (deepest > STACK_LIMIT) fail("more than 4,096 bytes of stack are used");
+
+    make_stack(START_SIZE);
+    deepest = runs = 0;
+    printf("slots  start\n");
+    for (size_t i = 0; i < 3; i++) {
+        try_starts(sizes[i], PLACES);
+        try_starts(sizes[i], 4);
+    }
+    printf("%zu starts on a stack of %d bytes: the deepest byte used is %zu\n", runs, START_SIZE, deepest);
+    if (deepest > START_LIMIT) fail("a start uses more than 8,192 bytes of stack");
     return 0;
 }
