@@ -12,9 +12,13 @@ pub fn print_command(rt: &impl Print, command: &str, slot: SlotNo) -> io::Result
     print!(rt; "{command} {}: ", slot.0)
 }
 
-// How many steps a job has, and what was read after its cuts.
+// How many steps a job has, and what was read after its cuts; each number is a write of its own.
 pub fn print_tally(rt: &impl Print, steps: usize, t: Tally) -> io::Result<()> {
-    print!(rt; "{steps} steps, {} cuts: ", t.cuts)?;
-    print!(rt; "{} old, {} new, {} neither; ", t.old, t.new, t.neither)?;
-    println!(rt; "{} repaired, {} then right", t.repaired, t.right)
+    print!(rt; "{steps} steps, ")?;
+    print!(rt; "{} cuts: ", t.cuts)?;
+    print!(rt; "{} old, ", t.old)?;
+    print!(rt; "{} new, ", t.new)?;
+    print!(rt; "{} neither; ", t.neither)?;
+    print!(rt; "{} repaired, ", t.repaired)?;
+    println!(rt; "{} then right", t.right)
 }
