@@ -297,19 +297,30 @@ static const struct { const char *name; void (*call)(void); } starts_of[] = {
     {"enable", call_enable}, {"disable", call_disable}, {"rename", call_rename},
     {"create", call_create}, {"delete", call_delete},   {"repair", call_repair}};
 
-/* Slots 0 and 1 are in the order, no slot is empty, and one granule is free: all six start, but that a full table has no row
- * for a new slot. A pointer block of four places has fewer than the table has entries. */
-static void try_starts(int slots, int places) {
-    make_image(SLOTS_LAST, TWO, slots);
+/* No slot is empty, and one granule is free. With the first two slots in the order all six start, but that a full table has
+ * no row for a new slot. In a full block each place gives a slot, but for strays: the last slot is enabled by a new block or,
+ * where four places have four other slots, not at all, and it is not deleted where it has a place. */
+static int refusal_of(const char *start, enum pointers pointers, int slots, int places) {
+    int has_place = 0;
+    for (int place = 0; place < places; place++)
+        if (place_value(pointers, place, slots) == starts[slots - 1]) has_place = 1;
+    if (strcmp(start, "create") == 0) return slots == SLOTS_MAX ? 41 : 0;
+    if (strcmp(start, "delete") == 0) return has_place ? 43 : 0;
+    if (strcmp(start, "enable") == 0) return pointers == ALL_SLOTS && places == 4 && !has_place ? 15 : 0;
+    return 0;
+}
+
+static void try_starts(int slots, enum pointers pointers, int places) {
+    make_image(SLOTS_LAST, pointers, slots);
     image_length += BLOCK;
     for (int slot = 0; slot < slots; slot++) image[starts[slot]] = 0;
     put(CPB0 + 0x14, (uint64_t)places, 4);
     put(CPB1 + 0x14, (uint64_t)places, 4);
     last_slot = (uint32_t)slots - 1;
     for (size_t i = 0; i < sizeof starts_of / sizeof *starts_of; i++) {
-        int refusal = starts_of[i].call == call_create && slots == SLOTS_MAX ? 41 : 0;
+        int refusal = refusal_of(starts_of[i].name, pointers, slots, places);
         size_t depth = depth_of(starts_of[i].call);
-        printf("%5d  %-11s  %3d places%24s  %-8s %3d  %7zu\n", slots, starts_of[i].name, places, "",
+        printf("%5d  %-11s  %-22s %3d places  %-8s %3d  %7zu\n", slots, starts_of[i].name, pointer_names[pointers], places,
                refusal ? "refused" : "started", refusal, depth);
         if (answer != refusal) fail("a start has another answer than expected");
         if (depth > deepest) deepest = depth;
@@ -334,8 +345,10 @@ int main(void) {
     deepest = runs = 0;
     printf("slots  start\n");
     for (size_t i = 0; i < 3; i++) {
-        try_starts(sizes[i], PLACES);
-        try_starts(sizes[i], 4);
+        for (int places = 4; places <= PLACES; places += PLACES - 4) {
+            try_starts(sizes[i], TWO, places);
+            try_starts(sizes[i], ALL_SLOTS, places);
+        }
     }
     printf("%zu starts on a stack of %d bytes: the deepest byte used is %zu\n", runs, START_SIZE, deepest);
     if (deepest > START_LIMIT) fail("a start uses more than 8,192 bytes of stack");
