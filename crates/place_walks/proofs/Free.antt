@@ -1,7 +1,7 @@
 -- The free place, from the last place down: above it nothing has a value but that of an erased place, and nothing is
 -- added to the boot order. Assumes nothing.
 use mathlib.Core.Path.{◌≡◌, refl, sym, ap, ◌∙◌}
-use mathlib.Core.Bool.{Bool, true, false, not}
+use mathlib.Core.Bool.{Bool, true, false, not, ◌||◌}
 use mathlib.Core.List.{List, [], ◌∷◌}
 use Prim.Native.Nat.{ℕ, zero, suc, ◌+◌, ◌-◌, ◌≤◌, ◌<◌}
 use native.Mathlib.Omega.{arith}
@@ -14,7 +14,7 @@ use Rattle.rules.specs.Pointers.{place_count, places, erased_value, all_ones, ju
 use Rattle.rules.specs.Commands.{free_place}
 use Rattle.rules.specs.declared.SlotNo.{SlotNo}
 use Rattle.rules.specs.declared.Place.TheVariants.{Live}
-use Rattle.rules.proofs.Lists.Tests.{and_true}
+use Rattle.rules.proofs.Lists.Tests.{and_true, or_false}
 use Rattle.rules.proofs.Order.Ordering.{erased_by_value}
 use Rattle.walks.specs.Last.{last_from}
 use Rattle.walks.proofs.Last.{last_passes, last_none, last_goes, last_found}
@@ -92,6 +92,20 @@ four_erased p k four within none erased =
     (λ i h one. all_goes all_ones (place_turn p i h) (not-false (all_ones (place_value p i)) one))
     (k - 4) (omega arith) none)
     ∙ erased
+
+pub eight_erased : (p : List ℕ) (k : ℕ) → 8 ≤ k → k ≤ place_count p
+    → one_of_four (λ i. not (all_ones (place_value p i))) (k - 8)
+    || one_of_four (λ i. not (all_ones (place_value p i))) (k - 4)
+    ≡ false
+    → all all_ones (drop k (places p)) ≡ true
+    → all all_ones (drop (k - 8) (places p)) ≡ true
+eight_erased p k eight within none erased =
+    let used : ℕ → Bool = one_of_four (λ i. not (all_ones (place_value p i))) in
+    let (lower, upper) = or_false (used (k - 8)) (used (k - 4)) none in
+    let to_low : k - 4 - 4 ≡ k - 8 = omega arith in
+    rw to_low at
+    (four_erased p (k - 4) (omega arith) (omega arith) (rw to_low lower)
+    (four_erased p k (omega arith) within upper erased))
 
 module _ (p : List ℕ) (k : ℕ) (some : 0 < k) (within : k ≤ place_count p)
     (erased : all all_ones (drop k (places p)) ≡ true)
